@@ -1,0 +1,9 @@
+pub mod Columns
+pub mod Firsts
+pub mod Chains
+pub mod Search
+pub mod Moves
+pub mod Counts
+pub mod Sounds
+pub mod Entries
+pub mod Registers

@@ -1,0 +1,13 @@
+use mathlib.Core.Logic.{_≢_}
+use borrow.Author.Count.{below-more}
+use native.Mathlib.Omega.{arith}
+use Prim.Native.Nat.{_<_}
+use lib.ListN.{length}
+use lib.Seq.{getD-set-same, getD-set-other}
+use Rattle.directories.proofs.numbered.free_all.Needs as need
+
+pub loop-i-again : need.loop-i-again
+loop-i-again c =
+    below-more _ _
+    (λ k h. let ne : k ≢ c .loop-i .i = omega arith in rw getD-set-other (c .loop-i .inv k h))
+    (let lt : c .loop-i .i < length (c .loop-i .frees) = omega arith in rw getD-set-same)

@@ -1,0 +1,12 @@
+pub mod Meaning
+pub mod Bits
+pub mod Rings
+pub mod Flat
+pub mod Rows
+pub mod Wheels
+pub mod Kinds
+pub mod Fresh
+pub mod Turns
+pub mod Steps
+pub mod Figures
+pub mod FlatTable

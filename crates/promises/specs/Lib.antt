@@ -1,0 +1,10 @@
+pub mod Numbers
+pub mod State
+pub mod Events
+pub mod Steps
+pub mod Lines
+pub mod GreedyDual
+pub mod Rivals
+pub mod History
+pub mod Promises
+pub mod Examples
