@@ -4,6 +4,8 @@ use orders::BottomWheelOrder;
 use orders::Entry;
 use orders::ExpelledDebug;
 use orders::ExpelledPartialEq;
+use orders::FlatOrder;
+use orders::FlatOrderOrder;
 use orders::Order;
 use orders::Wheel;
 use orders::WheelOrder;
@@ -144,4 +146,17 @@ fn emptied_stacks_start_afresh() -> Result<(), Fail> {
     check(!stack.due() && !stack.withdraw(3))?;
     check_eq(stack.expel(), None)?;
     check(takes_all(&mut stack, &[(3, 256), (2, 255)]) && leave_as(&mut stack, &[(2, 255), (3, 1)]))
+}
+
+#[test]
+fn flat_order_and_a_wheel_over_it() -> Result<(), Fail> {
+    let mut flat = FlatOrder::new();
+    check(!flat.place(1024, 1) && !flat.place(1, 0) && !flat.place(1, 65_281))?;
+    check(takes_all(&mut flat, &[(9, 300), (4, 300), (6, 299), (1, 65_280)]) && !flat.place(9, 1))?;
+    check(leave_as(&mut flat, &[(6, 299), (9, 1), (4, 0), (1, 64_980)]) && !flat.due())?;
+    // its credits are 256 times coarser below the wheel, and the remembered queues keep them apart
+    let mut wheel = Wheel::new(FlatOrder::new());
+    check(wheel.size() == 1024 && wheel.span() == 16_711_680)?;
+    check(takes_all(&mut wheel, &[(1, 16_711_680), (2, 513), (3, 512), (4, 513), (5, 7)]))?;
+    check(leave_as(&mut wheel, &[(5, 7), (3, 505), (2, 1), (4, 0), (1, 16_711_167)]))
 }
