@@ -157,6 +157,12 @@ fn flat_order_and_a_wheel_over_it() -> Result<(), Fail> {
     // its credits are 256 times coarser below the wheel, and the remembered queues keep them apart
     let mut wheel = Wheel::new(FlatOrder::new());
     check(wheel.size() == 1024 && wheel.span() == 16_711_680)?;
-    check(takes_all(&mut wheel, &[(1, 16_711_680), (2, 513), (3, 512), (4, 513), (5, 7)]))?;
-    check(leave_as(&mut wheel, &[(5, 7), (3, 505), (2, 1), (4, 0), (1, 16_711_167)]))
+    check(takes_all(
+        &mut wheel,
+        &[(1, 16_711_680), (2, 513), (3, 512), (4, 513), (5, 7)],
+    ))?;
+    check(leave_as(
+        &mut wheel,
+        &[(5, 7), (3, 505), (2, 1), (4, 0), (1, 16_711_167)],
+    ))
 }

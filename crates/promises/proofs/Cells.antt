@@ -132,9 +132,9 @@ framed-to {s = s} e o = subst (Framed s) (sym e) o
 key-set : {K : Type 0} (s : State K) (o : OrderMeaning) (i : ℕ) (k : K) (r : Record) → i < slots s → i < length (s .table .records)
     → Only i (cell-of (Some k) r) s (record { directory = entered (s .directory) i k; order = o; table = with-record (s .table) i r })
 key-set s o i k r h f = record {
-    here = let a = getD-set-same (s .table .records) i r blank f in let b = getD-set-same (s .directory .keys) i (Some k) None h in cc;
-    others = λ j ne. let a = getD-set-other (s .table .records) i j r blank ne in let b = getD-set-other (s .directory .keys) i j (Some k) None ne in cc;
-  }
+  here = let a = getD-set-same (s .table .records) i r blank f in let b = getD-set-same (s .directory .keys) i (Some k) None h in cc;
+  others = λ j ne. let a = getD-set-other (s .table .records) i j r blank ne in let b = getD-set-other (s .directory .keys) i j (Some k) None ne in cc;
+}
 
 module _ {K : Type 0} (same : K → K → Bool) (s : State K) (so : Sound same s) where
   recorded-at : (i : ℕ) → i < slots s → i < length (s .table .records)
@@ -144,16 +144,16 @@ module _ {K : Type 0} (same : K → K → Bool) (s : State K) (so : Sound same s
   pub record-set : (o : OrderMeaning) (i : ℕ) (r : Record) → i < slots s
       → Only i (cell-of (key-at (s .directory) i) r) s (record { directory = s .directory; order = o; table = with-record (s .table) i r })
   record-set o i r h = record {
-      here = ap (cell-of (key-at (s .directory) i)) (getD-set-same (s .table .records) i r blank (recorded-at i h));
-      others = λ j ne. ap (cell-of (key-at (s .directory) j)) (getD-set-other (s .table .records) i j r blank ne);
-    }
+    here = ap (cell-of (key-at (s .directory) i)) (getD-set-same (s .table .records) i r blank (recorded-at i h));
+    others = λ j ne. ap (cell-of (key-at (s .directory) j)) (getD-set-other (s .table .records) i j r blank ne);
+  }
 
   pub key-gone : (o : OrderMeaning) (i : ℕ)
       → Only i (cell-of None (record-at (s .table) i)) s (record { directory = freed (s .directory) (Some i); order = o; table = s .table })
   key-gone o i = record {
-      here = ap (λ (k : Option K). cell-of k (record-at (s .table) i)) (key-freed same (s .directory) i);
-      others = λ j ne. ap (λ (k : Option K). cell-of k (record-at (s .table) j)) (key-freed-other same (s .directory) i j ne);
-    }
+    here = ap (λ (k : Option K). cell-of k (record-at (s .table) i)) (key-freed same (s .directory) i);
+    others = λ j ne. ap (λ (k : Option K). cell-of k (record-at (s .table) j)) (key-freed-other same (s .directory) i j ne);
+  }
 
   pub touched-alike : (i : ℕ) → Alike s (touched s i)
   touched-alike i j = by (out-at (s .table) i) _
@@ -205,10 +205,14 @@ module _ {K : Type 0} (same : K → K → Bool) (s : State K) (so : Sound same s
       → (k : K) (c : ℕ) (v slab after : List ℕ) (t : State K) → Absent same u k → length v ≤ u .table .chunk → slots u * u .table .chunk ≤ length slab
       → Takes u k c v slab t after → Comes same u k v t (Some slab) (Some after)
   take-comes u recorded few idle k c v slab after t ab short enough ta = record {
-      slot = ta .slot; inside = ta .below; unused = ta .unused; idle = idle (ta .slot) (ta .unused); absent = ab;
-      only = only-to (ta .after) (key-set u _ (ta .slot) k (record { cost = c; len = length v; lending = Idle }) (ta .below) (omega (arith, ta .below)));
-      pours = record { slab = slab; given = refl; left = ap (λ (x : List ℕ). Some x) (ta .bytes); enough = enough; short = short };
-    }
+    slot = ta .slot;
+    inside = ta .below;
+    unused = ta .unused;
+    idle = idle (ta .slot) (ta .unused);
+    absent = ab;
+    only = only-to (ta .after) (key-set u _ (ta .slot) k (record { cost = c; len = length v; lending = Idle }) (ta .below) (omega (arith, ta .below)));
+    pours = record { slab = slab; given = refl; left = ap (λ (x : List ℕ). Some x) (ta .bytes); enough = enough; short = short };
+  }
 
   evicts-goes : {home : K → ℕ} → SameLaws same home → (l : K) (u : State K) → Evicts s l u → Goes same s l u
   evicts-goes laws l u ev =
@@ -245,7 +249,7 @@ module _ {K : Type 0} (same : K → K → Bool) (s : State K) (so : Sound same s
       let p = accepted same s k c (length v) (length slab) f in
       let a = waiting-at same s so k (g .slot) (g .held) (ap (out-slot (s .table)) (sym (g .held)) ∙ p .idle) in
       renews a (only-to (g .after) (only-key false (length v) (a .there) (record-set same s so _ (g .slot) (record { cost = c; len = length v; lending = Idle }) (a .inside))))
-        (record { slab = slab; given = refl; left = ap (λ (x : List ℕ). Some x) (g .bytes); enough = p .room; short = p .short })
+      (record { slab = slab; given = refl; left = ap (λ (x : List ℕ). Some x) (g .bytes); enough = p .room; short = p .short })
   shifts laws (keeps k c v slab (Ok Taken) after) t (f, g, h, ta) =
       let p = accepted same s k c (length v) (length slab) f in
       comes (take-comes s (so .recorded) (so .few) (λ i e. unheld-idle same s i so e .1) k c v slab after t (found-none same s so k g) (p .short) (p .room) ta)
@@ -267,9 +271,9 @@ module _ {K : Type 0} (same : K → K → Bool) (s : State K) (so : Sound same s
       let l = out-key same s so (n .slot) (q .1) in
       let i = inside-of same s so (n .slot) (l .0) (l .1) in
       rewrites (l .0) (q .0) i (l .1) (q .1)
-        (only-to g (subst (λ (b : Bool). Only (n .slot) (record { key = Some (l .0); out = b; len = length v }) s (rewritten s (n .slot) (length v))) (q .1)
-          (only-key _ (length v) (l .1) (record-set same s so _ (n .slot) (record { cost = record-at (s .table) (n .slot) .cost; len = length v; lending = record-at (s .table) (n .slot) .lending }) i))))
-        (record { slab = slab; given = refl; left = ap (λ (x : List ℕ). Some x) h; enough = write-room same s so n (length v) (length slab) f; short = write-short s n (length v) (length slab) f })
+      (only-to g (subst (λ (b : Bool). Only (n .slot) (record { key = Some (l .0); out = b; len = length v }) s (rewritten s (n .slot) (length v))) (q .1)
+      (only-key _ (length v) (l .1) (record-set same s so _ (n .slot) (record { cost = record-at (s .table) (n .slot) .cost; len = length v; lending = record-at (s .table) (n .slot) .lending }) i))))
+      (record { slab = slab; given = refl; left = ap (λ (x : List ℕ). Some x) h; enough = write-room same s so n (length v) (length slab) f; short = write-short s n (length v) (length slab) f })
   shifts laws (gives-back n (Err r)) t (f, g) = rests (alike-to s t s g (λ i. refl)) refl
   shifts laws (gives-back n (Ok u)) t (f, g) =
       let q = known-ticket same s so n (give-known s n f) in

@@ -51,7 +51,7 @@ module _ (slab : List ℕ) (from : ℕ) (v : List ℕ) (inside : from + length v
       let e : w + (at - w) ≡ at = omega arith in
       let a : written slab from v ≡ (take from slab ++ v) ++ drop w slab = sym (append-assoc (take from slab) v (drop w slab)) in
       ap (λ (x : ℕ). drop x (written slab from v)) (sym e) ∙ sym (drop-drop (at - w) w (written slab from v)) ∙ ap (λ (x : List ℕ). drop (at - w) (drop w x)) a
-        ∙ ap (drop (at - w)) (drop-at (take from slab ++ v) (drop w slab) w f) ∙ drop-drop (at - w) w slab ∙ ap (λ (x : ℕ). drop x slab) e
+      ∙ ap (drop (at - w)) (drop-at (take from slab ++ v) (drop w slab) w f) ∙ drop-drop (at - w) w slab ∙ ap (λ (x : ℕ). drop x slab) e
 
 -- a value written into the part of a slot: that part, and those of the others
 module _ (slots chunk : ℕ) (slab : List ℕ) (enough : slots * chunk ≤ length slab) (i : ℕ) (inside : i < slots) (v : List ℕ) (short : length v ≤ chunk) where

@@ -35,10 +35,10 @@ pub record Reached {K : Type 0} (same : K → K → Bool) (m : Making K) (es : L
 module _ {K : Type 0} (same : K → K → Bool) {home : K → ℕ} (laws : SameLaws same home) where
   pub reached : (m : Making K) (es : List (Event K)) (s : State K) → Line same m es s → Reached same m es s
   reached m [] s e = subst (λ t. Reached same m [] t) (sym e) (record {
-      leads = λ i. view-free (made m) i (made-keys m i);
-      size-is = refl;
-      mark-is = refl;
-    })
+    leads = λ i. view-free (made m) i (made-keys m i);
+    size-is = refl;
+    mark-is = refl;
+  })
   reached m (e ∷ es) t (s, l, st) =
       let r = reached m es s l in
       let f = step-follows same s t e (sound-line same m es s laws l) st in

@@ -22,19 +22,19 @@ module _ {K : Type 0} (same : K → K → Bool) (home : K → ℕ) (laws : SameL
 
   pub every-line : Every-line same
   every-line m es s l = record {
-      competitive = competitive same home laws m es s l;
-      waiting-bounded = waiting-bounded same home laws m es s l;
-      stays-out = stays-out same home laws sounds m es s l;
-      held-out = held-out same home laws sounds m es s l;
-      one-lease = one-lease same home laws sounds m es s l;
-      value-kept = value-kept same home laws sounds m es s l;
-      bytes-kept = bytes-kept same home laws sounds m es s l;
-      last-value-answered = last-value-answered same home laws sounds m es s l;
-      lengths-kept = lengths-kept same home laws sounds m es s l;
-      greedy-dual = greedy-dual same home laws sounds m es s l;
-      sound = sounds m es s l;
-      parts-apart = parts-apart (chunk-size (m .chunk));
-    }
+    competitive = competitive same home laws m es s l;
+    waiting-bounded = waiting-bounded same home laws m es s l;
+    stays-out = stays-out same home laws sounds m es s l;
+    held-out = held-out same home laws sounds m es s l;
+    one-lease = one-lease same home laws sounds m es s l;
+    value-kept = value-kept same home laws sounds m es s l;
+    bytes-kept = bytes-kept same home laws sounds m es s l;
+    last-value-answered = last-value-answered same home laws sounds m es s l;
+    lengths-kept = lengths-kept same home laws sounds m es s l;
+    greedy-dual = greedy-dual same home laws sounds m es s l;
+    sound = sounds m es s l;
+    parts-apart = parts-apart (chunk-size (m .chunk));
+  }
 
   -- what a call's step gives: the promise of any line with this event added
   pub goes-on : (s : State K) (e : Event K) (t : State K) → Step same s e t → Goes-on same s e t

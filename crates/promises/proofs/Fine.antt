@@ -65,13 +65,14 @@ module _ {K : Type 0} (same : K → K → Bool) {home : K → ℕ} (laws : SameL
   pub enters-apart : {n i : ℕ} {x : K} {c : ℕ} {v w : View K} → Enters n i x c v w → Unheld same x v → Apart same v → Apart same w
   enters-apart {i = i} {x = x} {v = v} {w = w} o u a =
       only-all (o .entered) (λ j q. (j′ : ℕ) (k : K) → holds same k q ≡ true → holds same k (w j′) ≡ true → j ≡ j′)
-        (only-all (o .entered) (λ j q. (k : K) → same x k ≡ true → holds same k q ≡ true → i ≡ j) (λ k s t. refl) (λ j d k s t. absurd (clash j k s t)))
-        (λ j d. only-all (o .entered) (λ j′ q. (k : K) → holds same k (v j) ≡ true → holds same k q ≡ true → j ≡ j′) (λ k s t. absurd (clash j k t s)) (λ j′ d′ k s t. a j j′ k s t))
+      (only-all (o .entered) (λ j q. (k : K) → same x k ≡ true → holds same k q ≡ true → i ≡ j) (λ k s t. refl) (λ j d k s t. absurd (clash j k s t)))
+      (λ j d. only-all (o .entered) (λ j′ q. (k : K) → holds same k (v j) ≡ true → holds same k q ≡ true → j ≡ j′) (λ k s t. absurd (clash j k t s)) (λ j′ d′ k s t. a j j′ k s t))
     where
       clash′ : (p : Place K) (k : K) → holds same x p ≡ false → same x k ≡ true → holds same k p ≡ true → ⊥
       clash′ free k u s t = both-ways false refl t
       clash′ (waits l c r) k u s t = both-ways (same l x) u (laws .transitive l k x t (laws .symmetric x k s))
       clash′ (lies-out l c) k u s t = both-ways (same l x) u (laws .transitive l k x t (laws .symmetric x k s))
+
       clash : (j : ℕ) (k : K) → same x k ≡ true → holds same k (v j) ≡ true → ⊥
       clash j k s t = clash′ (v j) k (u j) s t
 
@@ -82,21 +83,21 @@ pub record Fine {K : Type 0} (same : K → K → Bool) (v : View K) : Type 0 whe
 module _ {K : Type 0} (same : K → K → Bool) {home : K → ℕ} (laws : SameLaws same home) (n mark : ℕ) where
   pub fine-expels : {i d : ℕ} {e : K} {v w : View K} → Expels n i d e v w → Fine same v → Fine same w
   fine-expels {d = d} {v = v} {w = w} o f = record {
-      apart = shrinks same laws v w (expels-shrinks same laws o) (f .apart);
-      proper = expels-all o (λ j q. Proper q) tt (λ j ne. lower-proper d (v j) (f .proper j));
-    }
+    apart = shrinks same laws v w (expels-shrinks same laws o) (f .apart);
+    proper = expels-all o (λ j q. Proper q) tt (λ j ne. lower-proper d (v j) (f .proper j));
+  }
 
   pub fine-enters : {i c : ℕ} {x : K} {v w : View K} → Enters n i x c v w → Unheld same x v → Fine same v → Fine same w
   fine-enters {c = c} {v = v} o u f = record {
-      apart = enters-apart same laws o u (f .apart);
-      proper = only-all (o .entered) (λ j q. Proper q) (omega arith, o .positive) (λ j ne. f .proper j);
-    }
+    apart = enters-apart same laws o u (f .apart);
+    proper = only-all (o .entered) (λ j q. Proper q) (omega arith, o .positive) (λ j ne. f .proper j);
+  }
 
   pub fine-only : {i : ℕ} {p q : Place K} {v w : View K} → Only i p v w → v i ≡ q → ((k : K) → holds same k p ≡ holds same k q) → Proper p → Fine same v → Fine same w
   fine-only o e h pr f = record {
-      apart = stays same laws o e h (f .apart);
-      proper = only-all o (λ j q. Proper q) pr (λ j ne. f .proper j);
-    }
+    apart = stays same laws o e h (f .apart);
+    proper = only-all o (λ j q. Proper q) pr (λ j ne. f .proper j);
+  }
 
   -- a key that nobody holds is still held by nobody after an expulsion
   pub unheld-expels : (x : K) {i d : ℕ} {e : K} {v w : View K} → Expels n i d e v w → Unheld same x v → Unheld same x w
@@ -104,9 +105,9 @@ module _ {K : Type 0} (same : K → K → Bool) {home : K → ℕ} (laws : SameL
 
   pub fine-alike : {v w : View K} → Alike v w → Fine same v → Fine same w
   fine-alike {v} {w} s f = record {
-      apart = shrinks same laws v w (λ j k t. ap (holds same k) (sym (s j)) ∙ t) (f .apart);
-      proper = λ i. subst Proper (sym (s i)) (f .proper i);
-    }
+    apart = shrinks same laws v w (λ j k t. ap (holds same k) (sym (s j)) ∙ t) (f .apart);
+    proper = λ i. subst Proper (sym (s i)) (f .proper i);
+  }
 
   pub fine-step : {v w : View K} {e : Effect K} → Moves same n mark v w e → Fine same v → Fine same w
   fine-step (rests _ s) f = fine-alike s f
@@ -118,15 +119,15 @@ module _ {K : Type 0} (same : K → K → Bool) {home : K → ℕ} (laws : SameL
   fine-step (lends {t = t} c r mk l e s o) f = fine-only o e (λ k. refl) ((subst Proper e (f .proper (t .slot))) .1) f
   fine-step (takes-back {t = t} c mk l e o) f = let h = subst Proper e (f .proper (t .slot)) in fine-only o e (λ k. refl) (omega arith, h) f
   fine-step {v = v} {w = w} (removes i c r l e s o) f = record {
-      apart = shrinks same laws v w (only-shrinks same laws o (λ k t. absurd (both-ways false refl t))) (f .apart);
-      proper = only-all o (λ j q. Proper q) tt (λ j ne. f .proper j);
-    }
+    apart = shrinks same laws v w (only-shrinks same laws o (λ k t. absurd (both-ways false refl t))) (f .apart);
+    proper = only-all o (λ j q. Proper q) tt (λ j ne. f .proper j);
+  }
 
   pub fine-line : (es : List (Event K)) (v : View K) → Leads same n mark es v → Fine same v
   fine-line [] v l = record {
-      apart = λ i j k p q. absurd (both-ways false refl (sym (ap (holds same k) (l i)) ∙ p));
-      proper = λ i. subst Proper (sym (l i)) tt;
-    }
+    apart = λ i j k p q. absurd (both-ways false refl (sym (ap (holds same k) (l i)) ∙ p));
+    proper = λ i. subst Proper (sym (l i)) tt;
+  }
   fine-line (e ∷ es) w (v, l, m) = fine-step m (fine-line es v l)
 
   module _ (cost : K → ℕ) (cost-alike : (a b : K) → same a b ≡ true → cost a ≡ cost b) where

@@ -140,7 +140,7 @@ module _ {K : Type 0} (same : K → K → Bool) {home : K → ℕ} (laws : SameL
   count-step t x y f (rewrites _ _ _ _ _ _ _) n m r h = omega arith
   count-step t x y f (takes-back {n = u} l e th ou o q) n m r h = count-back n l (same-ticket u n) m r
       (λ z. let w = ag .out (u .slot) l th ou in
-        (w .0, ap (lent es) (sym (one-ticket u n z) ∙ ap (λ (x : ℕ). record { mark = x; slot = u .slot }) e) ∙ w .1)) h
+      (w .0, ap (lent es) (sym (one-ticket u n z) ∙ ap (λ (x : ℕ). record { mark = x; slot = u .slot }) e) ∙ w .1)) h
   count-step t x y f (removes _ _) n m r h = omega arith
 
   -- the value of a key that is out, by an event that is not a write under its ticket

@@ -47,18 +47,18 @@ lower-lent d (lies-out k c) = refl
 module _ {K : Type 0} (same : K → K → Bool) (n mark : ℕ) (by : Ticket → Option K) where
   agree-only : {v w : View K} {i : ℕ} {p q : Place K} → Only i p v w → v i ≡ q → lent-place p ≡ lent-place q → Agree same mark by v → Agree same mark by w
   agree-only {i = i} o e s a = record {
-      slots = only-all o (λ j x. Match same (by (ticket mark j)) (lent-place x)) (subst (Match same (by (ticket mark i))) (ap lent-place e ∙ sym s) (a .slots i)) (λ j ne. a .slots j);
-      marks = a .marks;
-    }
+    slots = only-all o (λ j x. Match same (by (ticket mark j)) (lent-place x)) (subst (Match same (by (ticket mark i))) (ap lent-place e ∙ sym s) (a .slots i)) (λ j ne. a .slots j);
+    marks = a .marks;
+  }
 
   agree-alike : {v w : View K} → Alike v w → Agree same mark by v → Agree same mark by w
   agree-alike s a = record { slots = λ i. subst (λ x. Match same (by (ticket mark i)) (lent-place x)) (sym (s i)) (a .slots i); marks = a .marks }
 
   agree-expels : {v w : View K} {i d : ℕ} {e : K} → Expels n i d e v w → Agree same mark by v → Agree same mark by w
   agree-expels {v = v} {i = i} {d = d} o a = record {
-      slots = expels-all o (λ j x. Match same (by (ticket mark j)) (lent-place x)) (subst (Match same (by (ticket mark i))) (ap lent-place (o .was)) (a .slots i)) (λ j ne. subst (Match same (by (ticket mark j))) (sym (lower-lent d (v j))) (a .slots j));
-      marks = a .marks;
-    }
+    slots = expels-all o (λ j x. Match same (by (ticket mark j)) (lent-place x)) (subst (Match same (by (ticket mark i))) (ap lent-place (o .was)) (a .slots i)) (λ j ne. subst (Match same (by (ticket mark j))) (sym (lower-lent d (v j))) (a .slots j));
+    marks = a .marks;
+  }
 
 -- the test of a ticket, at its own slot and at another
 own : (t : Ticket) (m : ℕ) → t .mark ≡ m → same-ticket t (ticket m (t .slot)) ≡ true
@@ -77,13 +77,13 @@ module _ {K : Type 0} (same : K → K → Bool) {home : K → ℕ} (laws : SameL
   agree-step (takes i un en) by a = agree-only same n mark by (en .entered) (en .unused) refl a
   agree-step (evicts i j least x un full ex en) by a = agree-only same n mark by (en .entered) (en .unused) refl (agree-expels same n mark by ex a)
   agree-step (lends {k = k} {l = l} {t = t} c r mk lt e s o) by a = record {
-      slots = only-all o (λ j x. Match same (cond (same-ticket t (ticket mark j)) (Some k) (by (ticket mark j))) (lent-place x)) (rw (own t mark mk) (laws .symmetric l k s)) (λ j ne. rw (other t mark j ne) (a .slots j));
-      marks = λ u x h. ⊎-elim (λ q. sym (eqb-true (t .mark) (u .mark) (and-parts (eqb (t .mark) (u .mark)) (eqb (t .slot) (u .slot)) q .0)) ∙ mk) (λ q. a .marks u x (sym (cond-false _ (Some k) (by u) q) ∙ h)) (cases-bool (same-ticket t u));
-    }
+    slots = only-all o (λ j x. Match same (cond (same-ticket t (ticket mark j)) (Some k) (by (ticket mark j))) (lent-place x)) (rw (own t mark mk) (laws .symmetric l k s)) (λ j ne. rw (other t mark j ne) (a .slots j));
+    marks = λ u x h. ⊎-elim (λ q. sym (eqb-true (t .mark) (u .mark) (and-parts (eqb (t .mark) (u .mark)) (eqb (t .slot) (u .slot)) q .0)) ∙ mk) (λ q. a .marks u x (sym (cond-false _ (Some k) (by u) q) ∙ h)) (cases-bool (same-ticket t u));
+  }
   agree-step (takes-back {k = k} {t = t} c mk lt e o) by a = record {
-      slots = only-all o (λ j x. Match same (cond (same-ticket t (ticket mark j)) None (by (ticket mark j))) (lent-place x)) (rw (own t mark mk) tt) (λ j ne. rw (other t mark j ne) (a .slots j));
-      marks = λ u x h. ⊎-elim (λ q. sym (eqb-true (t .mark) (u .mark) (and-parts (eqb (t .mark) (u .mark)) (eqb (t .slot) (u .slot)) q .0)) ∙ mk) (λ q. a .marks u x (sym (cond-false _ None (by u) q) ∙ h)) (cases-bool (same-ticket t u));
-    }
+    slots = only-all o (λ j x. Match same (cond (same-ticket t (ticket mark j)) None (by (ticket mark j))) (lent-place x)) (rw (own t mark mk) tt) (λ j ne. rw (other t mark j ne) (a .slots j));
+    marks = λ u x h. ⊎-elim (λ q. sym (eqb-true (t .mark) (u .mark) (and-parts (eqb (t .mark) (u .mark)) (eqb (t .slot) (u .slot)) q .0)) ∙ mk) (λ q. a .marks u x (sym (cond-false _ None (by u) q) ∙ h)) (cases-bool (same-ticket t u));
+  }
   agree-step (removes i c r lt e s o) by a = agree-only same n mark by o e refl a
 
   pub agree-line : (es : List (Event K)) (v : View K) → Leads same n mark es v → Agree same mark (lent es) v

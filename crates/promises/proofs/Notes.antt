@@ -81,12 +81,12 @@ module _ {K : Type 0} (same : K → K → Bool) {home : K → ℕ} (laws : SameL
     costs-given (touches i c r l e s o) fine cost h = only-all o (λ j q. Costs cost q) (subst (Costs cost) e (h i)) (λ j ne. h j)
     costs-given {v = v} (refreshes {k = k} {l = l} {d = d} i c r lt e s pos o) fine cost h =
         only-all o (λ j q. Costs (λ x. cost-given same x (Some (record { key = k; cost = d })) (cost x)) q) (priced-own k l d (cost l) s)
-          (λ j ne. priced-other k d cost (v j) (elsewhere v (fine .apart) k i (ap (holds same k) e ∙ s) j ne) (h j))
+        (λ j ne. priced-other k d cost (v j) (elsewhere v (fine .apart) k i (ap (holds same k) e ∙ s) j ne) (h j))
     costs-given {v = v} (takes {k = k} {d = d} i u o) fine cost h =
         only-all (o .entered) (λ j q. Costs (λ x. cost-given same x (Some (record { key = k; cost = d })) (cost x)) q) (priced-own k k d (cost k) (laws .reflexive k)) (λ j ne. priced-other k d cost (v j) (u j) (h j))
     costs-given {v = v} (evicts {k = k} {d = d} i j least x u full ex en) fine cost h =
         only-all (en .entered) (λ j q. Costs (λ x. cost-given same x (Some (record { key = k; cost = d })) (cost x)) q) (priced-own k k d (cost k) (laws .reflexive k))
-          (λ j ne. priced-other k d cost (x j) (unheld-expels same laws n mark k ex u j) (expels-all ex (λ j q. Costs cost q) tt (λ j ne. lower-costs cost least (v j) (h j)) j))
+        (λ j ne. priced-other k d cost (x j) (unheld-expels same laws n mark k ex u j) (expels-all ex (λ j q. Costs cost q) tt (λ j ne. lower-costs cost least (v j) (h j)) j))
     costs-given (lends {t = t} c r mk l e s o) fine cost h = only-all o (λ j q. Costs cost q) (subst (Costs cost) e (h (t .slot))) (λ j ne. h j)
     costs-given (takes-back {t = t} c mk l e o) fine cost h = only-all o (λ j q. Costs cost q) (subst (Costs cost) e (h (t .slot))) (λ j ne. h j)
     costs-given (removes i c r l e s o) fine cost h = only-all o (λ j q. Costs cost q) tt (λ j ne. h j)
@@ -124,7 +124,7 @@ module _ {K : Type 0} (same : K → K → Bool) {home : K → ℕ} (laws : SameL
         more (lies-out x c) h = or-right (same k x) (out x) h
     noted-step {v = v} (takes-back {k = k} {t = t} c mk lt e o) fine es a out h =
         only-all o (λ j q. Noted (λ x. cond (same-as same x (lent es t)) false (out x)) q) tt
-          (λ j ne. stays-noted es out t k (v j) own (elsewhere v (fine .apart) k (t .slot) (ap (holds same k) e ∙ laws .reflexive k) j ne) (h j))
+        (λ j ne. stays-noted es out t k (v j) own (elsewhere v (fine .apart) k (t .slot) (ap (holds same k) e ∙ laws .reflexive k) j ne) (h j))
       where
         own : Match same (lent es t) (Some k)
         own = subst (λ y. Match same (lent es t) (lent-place y)) e (subst (λ (y : ℕ). Match same (lent es (ticket y (t .slot))) (lent-place (v (t .slot)))) (sym mk) (a .slots (t .slot)))

@@ -57,9 +57,9 @@ other-ticket m n i j ne = and-right (eqb m n) (eqb i j) (ne-eqb i j (λ e. ne (s
 module _ {K : Type 0} (same : K → K → Bool) (mark : ℕ) (by : Ticket → Option K) where
   agree-only : {s t : State K} {i : ℕ} {c : Cell K} → Only i c s t → lent-in c ≡ lent-in (cell s i) → Agree same mark by s → Agree same mark by t
   agree-only {i = i} o e a = record {
-      matches = only-all o (λ (j : ℕ) (x : Cell K). Match same (by (ticket mark j)) (lent-in x)) (subst (Match same (by (ticket mark i))) (sym e) (a .matches i)) (λ j ne. a .matches j);
-      marks = a .marks;
-    }
+    matches = only-all o (λ (j : ℕ) (x : Cell K). Match same (by (ticket mark j)) (lent-in x)) (subst (Match same (by (ticket mark i))) (sym e) (a .matches i)) (λ j ne. a .matches j);
+    marks = a .marks;
+  }
 
   agree-alike : (s t : State K) → Alike s t → Agree same mark by s → Agree same mark by t
   agree-alike s t h a = record { matches = λ i. subst (λ (x : Cell K). Match same (by (ticket mark i)) (lent-in x)) (sym (h i)) (a .matches i); marks = a .marks }
@@ -78,11 +78,11 @@ module _ {K : Type 0} (same : K → K → Bool) (mark : ℕ) (by : Ticket → Op
   -- a ticket is lent out, or comes back: what is out under it changes, and its slot with it
   agree-sets : {s t : State K} {i : ℕ} {c : Cell K} (o : Option K) → Only i c s t → Match same o (lent-in c) → Agree same mark by s → Agree same mark (λ (n : Ticket). cond (same-ticket (ticket mark i) n) o (by n)) t
   agree-sets {s} {t} {i} {c} o on h a = record {
-      matches = only-all on (λ (j : ℕ) (x : Cell K). Match same (cond (same-ticket (ticket mark i) (ticket mark j)) o (by (ticket mark j))) (lent-in x))
+    matches = only-all on (λ (j : ℕ) (x : Cell K). Match same (cond (same-ticket (ticket mark i) (ticket mark j)) o (by (ticket mark j))) (lent-in x))
         (subst (λ (z : Option K). Match same z (lent-in c)) (sym (cond-true _ o (by (ticket mark i)) (own-ticket mark i))) h)
         (λ j ne. subst (λ (z : Option K). Match same z (lent-in (cell s j))) (sym (cond-false _ o (by (ticket mark j)) (other-ticket mark mark i j ne))) (a .matches j));
-      marks = λ n l e. ⊎-elim (λ q. sym (eqb-true mark (n .mark) (and-parts (eqb mark (n .mark)) (eqb i (n .slot)) q .0))) (λ q. a .marks n l (sym (cond-false _ o (by n) q) ∙ e)) (cases-bool (same-ticket (ticket mark i) n));
-    }
+    marks = λ n l e. ⊎-elim (λ q. sym (eqb-true mark (n .mark) (and-parts (eqb mark (n .mark)) (eqb i (n .slot)) q .0))) (λ q. a .marks n l (sym (cond-false _ o (by n) q) ∙ e)) (cases-bool (same-ticket (ticket mark i) n));
+  }
 
   pub agree-step : (s t : State K) (x y : Option (List ℕ)) (f : Effect K) → s .table .mark ≡ mark → Shift same s t x y f → Agree same mark by s → Agree same mark (λ (n : Ticket). lent-after f n (by n)) t
   agree-step s t x y f m (rests h q) a = agree-alike s t h a
@@ -115,9 +115,9 @@ module _ {K : Type 0} (same : K → K → Bool) (home : K → ℕ) (laws : SameL
 
   pub agree-line : (es : List (Event K)) (s : State K) → Line same m es s → Agree same (m .mark) (lent es) s
   agree-line [] s l = record {
-      matches = λ i. subst (λ (o : Option K). Match same None (lent-cell o (out-at (s .table) i))) (sym (ap (λ (x : State K). key-at (x .directory) i) l ∙ made-empty m i)) tt;
-      marks = λ t k h. absurd (none-some refl h);
-    }
+    matches = λ i. subst (λ (o : Option K). Match same None (lent-cell o (out-at (s .table) i))) (sym (ap (λ (x : State K). key-at (x .directory) i) l ∙ made-empty m i)) tt;
+    marks = λ t k h. absurd (none-some refl h);
+  }
   agree-line (e ∷ es) t (s, l, st) = agree-step same (m .mark) (lent es) s t (slab-in e) (slab-out e) (effect e) (line-mark es s l) (shifts same s (sounds m es s l) laws e t st) (agree-line es s l)
 
 -- the two ways of telling who is out, one by the other
@@ -142,12 +142,12 @@ agrees {K} same home laws sounds m es s l =
     let q = line-mark same home laws sounds m es s l in
     record {
       leased = λ t k h.
-        let mk = a .marks t k h in
-        let h′ : lent es (ticket (m .mark) (t .slot)) ≡ Some k = ap (λ (z : ℕ). lent es (ticket z (t .slot))) (sym mk) ∙ h in
-        let f = match-some same k (key-at (s .directory) (t .slot)) (out-at (s .table) (t .slot)) (subst (λ (o : Option K). Match same o (lent-in (cell s (t .slot)))) h′ (a .matches (t .slot))) in
-        (f .0, f .1, f .2, f .3, mk ∙ sym q);
+          let mk = a .marks t k h in
+          let h′ : lent es (ticket (m .mark) (t .slot)) ≡ Some k = ap (λ (z : ℕ). lent es (ticket z (t .slot))) (sym mk) ∙ h in
+          let f = match-some same k (key-at (s .directory) (t .slot)) (out-at (s .table) (t .slot)) (subst (λ (o : Option K). Match same o (lent-in (cell s (t .slot)))) h′ (a .matches (t .slot))) in
+          (f .0, f .1, f .2, f .3, mk ∙ sym q);
       out = λ i k e h.
-        let c : lent-in (cell s i) ≡ Some k = ap (λ (o : Option K). lent-cell o (out-at (s .table) i)) e ∙ cond-true _ (Some k) None h in
-        let f = match-out same k (lent es (ticket (m .mark) i)) (subst (Match same (lent es (ticket (m .mark) i))) c (a .matches i)) in
-        (f .0, ap (λ (z : ℕ). lent es (ticket z i)) q ∙ f .1, f .2);
+          let c : lent-in (cell s i) ≡ Some k = ap (λ (o : Option K). lent-cell o (out-at (s .table) i)) e ∙ cond-true _ (Some k) None h in
+          let f = match-out same k (lent es (ticket (m .mark) i)) (subst (Match same (lent es (ticket (m .mark) i))) c (a .matches i)) in
+          (f .0, ap (λ (z : ℕ). lent es (ticket z i)) q ∙ f .1, f .2);
     }

@@ -86,12 +86,12 @@ module _ {K : Type 0} (same : K → K → Bool) {home : K → ℕ} (laws : SameL
   -- our part of an event, after the rival's
   serve : (e : Event K) (es : List (Event K)) (v w : View K) → Leads same n mark es v → Moves same n mark v w (effect e) → Each (λ e before. Priced same cost (price-of (effect e))) (e ∷ es) → (rs : List K) (p : ℕ) → Stands es v rs p → ((k : K) → request-of (effect e) ≡ Some k → has same rs k ≡ true) → ((k : K) → removal-of (effect e) ≡ Some k → has same rs k ≡ false) → Stands (e ∷ es) w rs p
   serve e es v w l m pr rs p st req rem = record {
-      bound = bound-step same laws cost cost-alike n mark f g split m (fine-line same laws n mark es v l) (costs-line same laws n mark cost cost-alike es v l (pr .1)) (pr .0) rs p (paid es) (st .small) req rem
+    bound = bound-step same laws cost cost-alike n mark f g split m (fine-line same laws n mark es v l) (costs-line same laws n mark cost cost-alike es v l (pr .1)) (pr .0) rs p (paid es) (st .small) req rem
         (λ i k c q. let a = agree-line same laws n mark es v l in let x = known-lent same (v i) (lent es (ticket mark i)) k c (a .slots i) q in sym (has-alike same laws rs (x .0) k (x .2)) ∙ st .outs (ticket mark i) (x .0) (x .1))
         (st .bound);
-      small = st .small;
-      outs = λ t x h. ⊎-elim (λ a. st .outs t x a) (λ a. req x a) (lent-since (effect e) t (lent es t) x h);
-    }
+    small = st .small;
+    outs = λ t x h. ⊎-elim (λ a. st .outs t x a) (λ a. req x a) (lent-since (effect e) t (lent es t) x h);
+  }
 
   -- a rival that lets go of a key that is not out
   lets-go : (es : List (Event K)) (v : View K) → Leads same n mark es v → Each (λ e before. Priced same cost (price-of (effect e))) es → (k : K) → Not-out same es k → (rs : List K) (p : ℕ) → Stands es v rs p → Stands es v (without same k rs) p
@@ -130,8 +130,10 @@ module _ {K : Type 0} (same : K → K → Bool) {home : K → ℕ} (laws : SameL
     where
       fine : Fine same v
       fine = fine-line same laws n mark es v l
+
       agree : Agree same mark (lent es) v
       agree = agree-line same laws n mark es v l
+
       clash : (t : Ticket) (x : K) → lent es t ≡ Some x → same k x ≡ true → ⊥
       clash t x h p =
           let lm : lent es (ticket mark (t .slot)) ≡ Some x = subst (λ (y : ℕ). lent es (ticket y (t .slot)) ≡ Some x) (agree .marks t x h) h in
@@ -158,7 +160,7 @@ module _ {K : Type 0} (same : K → K → Bool) {home : K → ℕ} (laws : SameL
       serve e es v w l m pr (k ∷ rs) (cost k + p) (buys es v k rs p small (stands r v l (pr .1))) (λ a t. subst (λ y. has same (k ∷ rs) y ≡ true) (some-same (request-of (effect e)) k a q t) (or-left (same k k) (has same rs k) (laws .reflexive k))) (λ a t. absurd (request-or-removal (effect e) k a q t))
   stands (loses {es = es} {keys = rs} {p = p} e k r q) w (v, l, m) pr =
       serve e es v w l m pr (without same k rs) p (lets-go es v l (pr .1) k (dropped-not-out es l m k q) rs p (stands r v l (pr .1))) (λ a t. absurd (request-or-removal (effect e) a k t q))
-        (λ a t. subst (λ y. has same (without same k rs) y ≡ false) (some-same (removal-of (effect e)) k a q t) (has-without same laws k rs k ∙ cond-true (same k k) false (has same rs k) (laws .reflexive k)))
+      (λ a t. subst (λ y. has same (without same k rs) y ≡ false) (some-same (removal-of (effect e)) k a q t) (has-without same laws k rs k ∙ cond-true (same k k) false (has same rs k) (laws .reflexive k)))
   stands (unmoved {es = es} {keys = rs} {p = p} e r q q′) w (v, l, m) pr =
       serve e es v w l m pr rs p (stands r v l (pr .1)) (λ a t. absurd (none-some a (sym q ∙ t))) (λ a t. absurd (none-some a (sym q′ ∙ t)))
 

@@ -152,16 +152,22 @@ module _ {K : Type 0} (same : K → K → Bool) {home : K → ℕ} (laws : SameL
     where
       apart : j ≡ i → ⊥
       apart = elsewhere h (ex .was) (laws .reflexive e) ev
+
       lowered : u i ≡ waits l c (h .left - d)
       lowered = ex .others i (λ t. apart (sym t)) ∙ ap (lower d) (h .there)
+
       apart′ : j′ ≡ i → ⊥
       apart′ t = free-apart (u i) l c (h .left - d) lowered (ap u (sym t) ∙ en .unused)
+
       least : d ≤ h .left
       least = ex .least i l c (h .left) (h .there)
+
       there : w i ≡ waits l c (h .left - d)
       there = en .entered .others i (λ t. apart′ (sym t)) ∙ lowered
+
       late : 0 < d → Patient n i l c w (1 + x)
       late pos = record { left = h .left - d; there = there; bound = fall-arith n x (dues n i v) (dues n i w) (h .left) d ((c + 1) * (n - 1)) least pos (dues-entered n i j′ inside apart′ en) (h .bound) }
+
       early : d ≤ 0 → Patient n i l c w (1 + x)
       early z =
           let ex₀ = subst (λ y. Expels n j y e v u) (zero-of d z) ex in

@@ -173,6 +173,7 @@ module _ {K : Type 0} (same : K → K → Bool) {home : K → ℕ} (laws : SameL
       no-r e free h = refl
       no-r e (waits l c d) h = let q = same-alike same laws x r l e in let q₁ = same-flip same laws x l in let q₂ = same-flip same laws r l in cc
       no-r e (lies-out l c) h = let q = same-alike same laws x r l e in let q₁ = same-flip same laws x l in let q₂ = same-flip same laws r l in cc
+
       go : (same x r ≡ true) ⊎ (same x r ≡ false) → common same n rs v + cond (has same rs x) 1 0 ≤ length rs → common same n (r ∷ rs) v + cond (has same (r ∷ rs) x) 1 0 ≤ length (r ∷ rs)
       go (inl e) ih =
           let a = sumTo-same n (λ i. cond (kept same (r ∷ rs) (v i)) 1 0) (λ i. cond (kept same rs (v i)) 1 0) (λ i l. no-r e (v i) (u i)) in

@@ -54,9 +54,9 @@ pub record Changes {K : Type 0} (i : ℕ) (k : Option K) (g : Record) (c : Optio
 
 pub changes-view : {K : Type 0} {i : ℕ} {k : Option K} {g : Record} {c : Option ℕ} {s t : State K} → Changes i k g c s t → Only i (place-of k g c) (view s) (view t)
 changes-view ch = record {
-    here = let a = ch .key-here in let b = ch .record-here in let d = ch .credit-here in cc;
-    others = λ j ne. let a = ch .key-others j ne in let b = ch .record-others j ne in let d = ch .credit-others j ne in cc;
-  }
+  here = let a = ch .key-here in let b = ch .record-here in let d = ch .credit-here in cc;
+  others = λ j ne. let a = ch .key-others j ne in let b = ch .record-others j ne in let d = ch .credit-others j ne in cc;
+}
 
 some-key : {K : Type 0} (same : K → K → Bool) (k : K) (o : Option K) → directory.holds same k o ≡ true → (a : K) × (o ≡ Some a) × (same a k ≡ true)
 some-key same k None e = absurd (both-ways false refl e)
@@ -126,9 +126,9 @@ module _ {K : Type 0} (same : K → K → Bool) (s : State K) (so : Sound same s
   full-view h i l e =
       let x = some-of (key-at (s .directory) i) (full-held (s .directory .keys) i (eqb-true (pairs (s .directory .keys)) (slots s) h) l) in
       ⊎-elim
-        (λ t. let a = view-out s i (x .0) (x .1) t in let z : _≡_ {A = ℕ} 0 1 = cc in omega arith)
-        (λ t. let r = waiting-slot i (x .0) (x .1) t in let a = view-waits s i (x .0) (r .0) (x .1) t (r .1) in let z : _≡_ {A = ℕ} 0 1 = cc in omega arith)
-        (cases-bool (out-at (s .table) i))
+      (λ t. let a = view-out s i (x .0) (x .1) t in let z : _≡_ {A = ℕ} 0 1 = cc in omega arith)
+      (λ t. let r = waiting-slot i (x .0) (x .1) t in let a = view-waits s i (x .0) (r .0) (x .1) t (r .1) in let z : _≡_ {A = ℕ} 0 1 = cc in omega arith)
+      (cases-bool (out-at (s .table) i))
 
   module _ (i : ℕ) (inside : i < slots s) where
     in-table : i < length (s .table .records)
@@ -144,89 +144,89 @@ module _ {K : Type 0} (same : K → K → Bool) (s : State K) (so : Sound same s
     touched-changes : 1 ≤ record-at (s .table) i .cost → record-at (s .table) i .cost ≤ s .order .span
         → Changes i (key-at (s .directory) i) (record-at (s .table) i) (Some (record-at (s .table) i .cost)) s (record { directory = s .directory; order = order.placed (order.withdrawn (s .order) i) i (record-at (s .table) i .cost); table = s .table })
     touched-changes low high = record {
-        key-here = refl;
-        record-here = refl;
-        credit-here = replaced-here (s .order) i _ in-order low high;
-        key-others = λ j ne. refl;
-        record-others = λ j ne. refl;
-        credit-others = λ j ne. replaced-other (s .order) i _ in-order low high j ne;
-      }
+      key-here = refl;
+      record-here = refl;
+      credit-here = replaced-here (s .order) i _ in-order low high;
+      key-others = λ j ne. refl;
+      record-others = λ j ne. refl;
+      credit-others = λ j ne. replaced-other (s .order) i _ in-order low high j ne;
+    }
 
     renewed-changes : (c n : ℕ) → 1 ≤ c → c ≤ s .order .span → Changes i (key-at (s .directory) i) (record { cost = c; len = n; lending = Idle }) (Some c) s (settled (withdrew s i) i c n)
     renewed-changes c n low high = record {
-        key-here = refl;
-        record-here = new-record _;
-        credit-here = replaced-here (s .order) i c in-order low high;
-        key-others = λ j ne. refl;
-        record-others = λ j ne. getD-set-other (s .table .records) i j _ _ ne;
-        credit-others = λ j ne. replaced-other (s .order) i c in-order low high j ne;
-      }
+      key-here = refl;
+      record-here = new-record _;
+      credit-here = replaced-here (s .order) i c in-order low high;
+      key-others = λ j ne. refl;
+      record-others = λ j ne. getD-set-other (s .table .records) i j _ _ ne;
+      credit-others = λ j ne. replaced-other (s .order) i c in-order low high j ne;
+    }
 
     entered-changes : (k : K) (c n : ℕ) → order.waits i (s .order .waiting) ≡ false → 1 ≤ c → c ≤ s .order .span → Changes i (Some k) (record { cost = c; len = n; lending = Idle }) (Some c) s (settled (with-key s i k) i c n)
     entered-changes k c n idle low high = record {
-        key-here = key-entered same (s .directory) i k inside;
-        record-here = new-record _;
-        credit-here = placed-here (s .order) i c in-order idle low high;
-        key-others = λ j ne. getD-set-other (s .directory .keys) i j _ _ ne;
-        record-others = λ j ne. getD-set-other (s .table .records) i j _ _ ne;
-        credit-others = λ j ne. placed-other (s .order) i c in-order idle low high j ne;
-      }
+      key-here = key-entered same (s .directory) i k inside;
+      record-here = new-record _;
+      credit-here = placed-here (s .order) i c in-order idle low high;
+      key-others = λ j ne. getD-set-other (s .directory .keys) i j _ _ ne;
+      record-others = λ j ne. getD-set-other (s .table .records) i j _ _ ne;
+      credit-others = λ j ne. placed-other (s .order) i c in-order idle low high j ne;
+    }
 
     lent-changes : Changes i (key-at (s .directory) i) (with-lending (record-at (s .table) i) Lent) None s (lent-slot s i)
     lent-changes = record {
-        key-here = refl;
-        record-here = new-record _;
-        credit-here = withdrawn-here (s .order) i;
-        key-others = λ j ne. refl;
-        record-others = λ j ne. getD-set-other (s .table .records) i j _ _ ne;
-        credit-others = λ j ne. withdrawn-other (s .order) i j ne;
-      }
+      key-here = refl;
+      record-here = new-record _;
+      credit-here = withdrawn-here (s .order) i;
+      key-others = λ j ne. refl;
+      record-others = λ j ne. getD-set-other (s .table .records) i j _ _ ne;
+      credit-others = λ j ne. withdrawn-other (s .order) i j ne;
+    }
 
     rewritten-changes : (n : ℕ) → Changes i (key-at (s .directory) i) (record { cost = record-at (s .table) i .cost; len = n; lending = record-at (s .table) i .lending }) (credit-at (s .order .waiting) i) s (rewritten s i n)
     rewritten-changes n = record {
-        key-here = refl;
-        record-here = new-record _;
-        credit-here = refl;
-        key-others = λ j ne. refl;
-        record-others = λ j ne. getD-set-other (s .table .records) i j _ _ ne;
-        credit-others = λ j ne. refl;
-      }
+      key-here = refl;
+      record-here = new-record _;
+      credit-here = refl;
+      key-others = λ j ne. refl;
+      record-others = λ j ne. getD-set-other (s .table .records) i j _ _ ne;
+      credit-others = λ j ne. refl;
+    }
 
     returned-changes : order.waits i (s .order .waiting) ≡ false → 1 ≤ record-at (s .table) i .cost → record-at (s .table) i .cost ≤ s .order .span
         → Changes i (key-at (s .directory) i) (with-lending (record-at (s .table) i) Idle) (Some (record-at (s .table) i .cost)) s (returned s i)
     returned-changes idle low high = record {
-        key-here = refl;
-        record-here = new-record _;
-        credit-here = placed-here (s .order) i _ in-order idle low high;
-        key-others = λ j ne. refl;
-        record-others = λ j ne. getD-set-other (s .table .records) i j _ _ ne;
-        credit-others = λ j ne. placed-other (s .order) i _ in-order idle low high j ne;
-      }
+      key-here = refl;
+      record-here = new-record _;
+      credit-here = placed-here (s .order) i _ in-order idle low high;
+      key-others = λ j ne. refl;
+      record-others = λ j ne. getD-set-other (s .table .records) i j _ _ ne;
+      credit-others = λ j ne. placed-other (s .order) i _ in-order idle low high j ne;
+    }
 
     dropped-changes : Changes i None (record-at (s .table) i) None s (dropped s i)
     dropped-changes = record {
-        key-here = key-freed same (s .directory) i;
-        record-here = refl;
-        credit-here = withdrawn-here (s .order) i;
-        key-others = λ j ne. key-freed-other same (s .directory) i j ne;
-        record-others = λ j ne. refl;
-        credit-others = λ j ne. withdrawn-other (s .order) i j ne;
-      }
+      key-here = key-freed same (s .directory) i;
+      record-here = refl;
+      credit-here = withdrawn-here (s .order) i;
+      key-others = λ j ne. key-freed-other same (s .directory) i j ne;
+      record-others = λ j ne. refl;
+      credit-others = λ j ne. withdrawn-other (s .order) i j ne;
+    }
 
   -- the first of the order leaves
   expelled-view : (f : Expelled) (x : K) → leaver (s .order .waiting) ≡ Some f → key-at (s .directory) (f .slot) ≡ Some x → Expels (slots s) (f .slot) (f .credit) x (view s) (view (evicted s (f .slot)))
   expelled-view f x first key = record {
-      within = in-slots (f .slot) x key;
-      cost = record-at (s .table) (f .slot) .cost;
-      was = view-waits s (f .slot) x (f .credit) key (waiting-not-out same s (f .slot) so (leaver-waits (s .order .waiting) f first)) (leaver-credit (s .order .waiting) f first);
-      least = λ j k c r h. leaver-least (s .order .waiting) f (so .lawful .sorted) first j r (place-waits (key-at (s .directory) j) (record-at (s .table) j) (credit-at (s .order .waiting) j) k c r h);
-      gone = view-free (evicted s (f .slot)) (f .slot) (key-freed same (s .directory) (f .slot));
-      others = λ j ne.
+    within = in-slots (f .slot) x key;
+    cost = record-at (s .table) (f .slot) .cost;
+    was = view-waits s (f .slot) x (f .credit) key (waiting-not-out same s (f .slot) so (leaver-waits (s .order .waiting) f first)) (leaver-credit (s .order .waiting) f first);
+    least = λ j k c r h. leaver-least (s .order .waiting) f (so .lawful .sorted) first j r (place-waits (key-at (s .directory) j) (record-at (s .table) j) (credit-at (s .order .waiting) j) k c r h);
+    gone = view-free (evicted s (f .slot)) (f .slot) (key-freed same (s .directory) (f .slot));
+    others = λ j ne.
         let a = key-freed-other same (s .directory) (f .slot) j ne in
         let b = rest-at (s .order .waiting) f j first ne in
         let d = place-less (key-at (s .directory) j) (record-at (s .table) j) (credit-at (s .order .waiting) j) (f .credit) in
         cc;
-    }
+  }
 
 -- what a step leaves
 pub record Follows {K : Type 0} (same : K → K → Bool) (s : State K) (e : Effect K) (t : State K) : Type 0 where
@@ -242,18 +242,18 @@ module _ {K : Type 0} (same : K → K → Bool) (s : State K) (so : Sound same s
   finds-put : (t : State K) (k : K) (i : ℕ) → held-slot same s k ≡ Some i → t ≡ touched s i → Follows same s (hit k) t
   finds-put t k i h q = let x = found-key same s so k i h in ⊎-elim
       (λ o. subst (λ y. Follows same s (hit k) y) (sym (q ∙ cond-true (out-at (s .table) i) s _ o)) (record {
-          moves = sees i (record-at (s .table) i .cost) (view-out s i (x .0) (x .1) o) (x .2) (λ j. refl);
-          same-size = refl;
-          same-mark = refl;
-        }))
+        moves = sees i (record-at (s .table) i .cost) (view-out s i (x .0) (x .1) o) (x .2) (λ j. refl);
+        same-size = refl;
+        same-mark = refl;
+      }))
       (λ o. let r = waiting-slot same s so i (x .0) (x .1) o in
-        let l = in-slots same s so i (x .0) (x .1) in
-        let ch = touched-changes same s so i l (so .each i .cost-low (ap isSome (x .1))) (so .each i .cost-high (ap isSome (x .1))) in
-        subst (λ y. Follows same s (hit k) y) (sym (q ∙ cond-false (out-at (s .table) i) s _ o)) (record {
-          moves = touches i (record-at (s .table) i .cost) (r .0) l (view-waits s i (x .0) (r .0) (x .1) o (r .1)) (x .2) (only-place (place-waiting (key-at (s .directory) i) (record-at (s .table) i) (x .0) (record-at (s .table) i .cost) (x .1) o) (changes-view ch));
-          same-size = refl;
-          same-mark = refl;
-        }))
+      let l = in-slots same s so i (x .0) (x .1) in
+      let ch = touched-changes same s so i l (so .each i .cost-low (ap isSome (x .1))) (so .each i .cost-high (ap isSome (x .1))) in
+      subst (λ y. Follows same s (hit k) y) (sym (q ∙ cond-false (out-at (s .table) i) s _ o)) (record {
+        moves = touches i (record-at (s .table) i .cost) (r .0) l (view-waits s i (x .0) (r .0) (x .1) o (r .1)) (x .2) (only-place (place-waiting (key-at (s .directory) i) (record-at (s .table) i) (x .0) (record-at (s .table) i .cost) (x .1) o) (changes-view ch));
+        same-size = refl;
+        same-mark = refl;
+      }))
       (cases-bool (out-at (s .table) i))
 
   refreshes-put : (t : State K) (k : K) (c : ℕ) (v : List ℕ) (m i : ℕ) → keep-fault same s k c (length v) m ≡ None → held-slot same s k ≡ Some i → t ≡ settled (withdrew s i) i c (length v) → Follows same s (refreshed k c v) t
@@ -349,8 +349,8 @@ module _ {K : Type 0} (same : K → K → Bool) (s : State K) (so : Sound same s
       let en = enters-view same (evicted s (ev .first .slot)) (sound-evicted same s (ev .first) so (ev .least)) tk′ (a .cost-low) (a .cost-high) in
       record {
         moves = evicts (ev .first .slot) (tk′ .slot) (ev .first .credit) (view (evicted s (ev .first .slot))) (unheld-view same s so k un) (full-view same s so fu)
-          (expelled-view same s so (ev .first) left (ev .least) (ev .key))
-          (subst (λ m. Enters m (tk′ .slot) k c (view (evicted s (ev .first .slot))) (view t)) n en);
+            (expelled-view same s so (ev .first) left (ev .least) (ev .key))
+            (subst (λ m. Enters m (tk′ .slot) k c (view (evicted s (ev .first .slot))) (view t)) n en);
         same-size = ap slots (tk′ .after) ∙ length-set (evicted s (ev .first .slot) .directory .keys) (tk′ .slot) _ ∙ n;
         same-mark = ap (λ (y : State K). y .table .mark) (tk′ .after);
       }

@@ -60,11 +60,12 @@ Of-held {K} P val s = (i : ℕ) (k : K) → key-at (s .directory) i ≡ Some k �
 
 pub pours-framed : {K : Type 0} {s u : State K} {i : ℕ} {v : List ℕ} {x y : Option (List ℕ)} → Framed s u → Pours u i v x y → Pours s i v x y
 pours-framed {i = i} {v = v} fr p = record {
-    slab = p .slab; given = p .given;
-    left = p .left ∙ ap (λ (c : ℕ). Some (written (p .slab) (i * c) v)) (fr .chunk);
-    enough = rw (fr .slots-same, fr .chunk) at (p .enough);
-    short = rw (fr .chunk) at (p .short);
-  }
+  slab = p .slab;
+  given = p .given;
+  left = p .left ∙ ap (λ (c : ℕ). Some (written (p .slab) (i * c) v)) (fr .chunk);
+  enough = rw (fr .slots-same, fr .chunk) at (p .enough);
+  short = rw (fr .chunk) at (p .short);
+}
 
 module _ {K : Type 0} (same : K → K → Bool) (P Q : ℕ → ℕ → List ℕ → Type 0) (val val′ : K → List ℕ) where
   -- a slot is given the value of its key, and the other keys keep theirs
@@ -79,7 +80,7 @@ module _ {K : Type 0} (same : K → K → Bool) (P Q : ℕ → ℕ → List ℕ 
   held-alike : (s t : State K) → Alike s t → ((j m : ℕ) (w : List ℕ) → P j m w → Q j m w) → ((k : K) → val′ k ≡ val k) → Of-held P val s → Of-held Q val′ t
   held-alike s t a f vals h j k e =
       subst (λ (n : ℕ). Q j n (val′ k)) (sym (ap (λ (c : Cell K). c .len) (a j)))
-        (subst (Q j (record-at (s .table) j .len)) (sym (vals k)) (f j _ (val k) (h j k (sym (ap (λ (c : Cell K). c .key) (a j)) ∙ e))))
+      (subst (Q j (record-at (s .table) j .len)) (sym (vals k)) (f j _ (val k) (h j k (sym (ap (λ (c : Cell K). c .key) (a j)) ∙ e))))
 
   held-goes : {s t : State K} {l : K} → Goes same s l t → ((j m : ℕ) (w : List ℕ) → P j m w → Q j m w) → ((k : K) → val′ k ≡ val k) → Of-held P val s → Of-held Q val′ t
   held-goes {s} {t} g f vals h j k e = only-all (g .only) (λ (j : ℕ) (c : Cell K). (k : K) → c .key ≡ Some k → Q j (c .len) (val′ k))
@@ -104,25 +105,25 @@ module _ {K : Type 0} (same : K → K → Bool) {home : K → ℕ} (laws : SameL
   carry f (finds a q) h = held-alike same P Q (last-value same es) (last-value same es) s t a (stay q) (λ k. refl) h
   carry f (renews {k = k} {v = v} a o p) h =
       held-set same P Q (last-value same es) (λ (l : K). cond (same k l) v (last-value same es l)) o
-        (subst (Q (a .slot) (length v)) (sym (cond-true (same k (a .held)) v _ (laws .symmetric (a .held) k (a .alike)))) (own (a .slot) v (a .inside) p))
-        (other (a .slot) v (a .inside) p)
-        (λ j l ne e. cond-false (same k l) v _ (untrue (same k l) (λ z. ne (one-slot same s so j (a .slot) l (a .held) e (a .there) (laws .transitive l k (a .held) (laws .symmetric k l z) (laws .symmetric (a .held) k (a .alike)))))))
-        h
+      (subst (Q (a .slot) (length v)) (sym (cond-true (same k (a .held)) v _ (laws .symmetric (a .held) k (a .alike)))) (own (a .slot) v (a .inside) p))
+      (other (a .slot) v (a .inside) p)
+      (λ j l ne e. cond-false (same k l) v _ (untrue (same k l) (λ z. ne (one-slot same s so j (a .slot) l (a .held) e (a .there) (laws .transitive l k (a .held) (laws .symmetric k l z) (laws .symmetric (a .held) k (a .alike)))))))
+      h
   carry f (comes c) h = held-comes same P Q (last-value same es) _ laws c (λ k. refl) (own (c .slot) _ (c .inside) (c .pours)) (other (c .slot) _ (c .inside) (c .pours)) h
   carry f (evicts u fr g c) h =
       let p = pours-framed fr (c .pours) in
       let i : c .slot < slots s = rw (fr .slots-same) at (c .inside) in
       held-comes same P Q (last-value same es) _ laws c (λ k. refl) (own (c .slot) _ i p) (other (c .slot) _ i p)
-        (held-goes same P P (last-value same es) (last-value same es) g (λ j n w z. z) (λ k. refl) h)
+      (held-goes same P P (last-value same es) (last-value same es) g (λ j n w z. z) (λ k. refl) h)
   carry f (lends a e o q) h = held-set same P Q (last-value same es) (last-value same es) o (stay q (a .slot) _ _ (h (a .slot) (a .held) (a .there))) (λ j n w ne z. stay q j n w z) (λ j k ne e. refl) h
   carry f (rewrites {n = n} {v = v} l m i th ou o p) h =
       let g = ag .out (n .slot) l th ou in
       let le : lent es n ≡ Some (g .0) = ap (λ (z : ℕ). lent es (record { mark = z; slot = n .slot })) m ∙ g .1 in
       held-set same P Q (last-value same es) (λ (k : K). cond (same-as same k (lent es n)) v (last-value same es k)) o
-        (subst (Q (n .slot) (length v)) (sym (cond-true _ v _ (ap (same-as same l) le ∙ laws .symmetric l (g .0) (g .2)))) (own (n .slot) v i p))
-        (other (n .slot) v i p)
-        (λ j k ne e. cond-false _ v _ (ap (same-as same k) le ∙ untrue (same (g .0) k) (λ z. ne (one-slot same s so j (n .slot) k l e th (laws .transitive k (g .0) l (laws .symmetric (g .0) k z) (laws .symmetric l (g .0) (g .2)))))))
-        h
+      (subst (Q (n .slot) (length v)) (sym (cond-true _ v _ (ap (same-as same l) le ∙ laws .symmetric l (g .0) (g .2)))) (own (n .slot) v i p))
+      (other (n .slot) v i p)
+      (λ j k ne e. cond-false _ v _ (ap (same-as same k) le ∙ untrue (same (g .0) k) (λ z. ne (one-slot same s so j (n .slot) k l e th (laws .transitive k (g .0) l (laws .symmetric (g .0) k z) (laws .symmetric l (g .0) (g .2)))))))
+      h
   carry f (takes-back {n = n} l m th ou o q) h = held-set same P Q (last-value same es) (last-value same es) o (stay q (n .slot) _ _ (h (n .slot) l th)) (λ j n w ne z. stay q j n w z) (λ j k ne e. refl) h
   carry f (removes g q) h = held-goes same P Q (last-value same es) (last-value same es) g (stay q) (λ k. refl) h
 
@@ -146,22 +147,22 @@ left-same x (Some w) o z du q e = ap (λ (a : List ℕ). Some a) (du w z (sym q)
 module _ {K : Type 0} (s : State K) (x y o : Option (List ℕ)) (du : Duty x o) where
   stored-own : (i : ℕ) (v : List ℕ) → i < slots s → Pours s i v x y → Stored (slots s) (s .table .chunk) (or-else y o) i (length v) v
   stored-own i v h p = record {
-      slab = written (p .slab) (start s i) v;
-      left = ap (λ (a : Option (List ℕ)). or-else a o) (p .left);
-      enough = let e = poured-length (slots s) (s .table .chunk) (p .slab) (p .enough) i h v (p .short) in omega (arith, p .enough);
-      short = p .short;
-      bytes = poured-own (slots s) (s .table .chunk) (p .slab) (p .enough) i h v (p .short);
-    }
+    slab = written (p .slab) (start s i) v;
+    left = ap (λ (a : Option (List ℕ)). or-else a o) (p .left);
+    enough = let e = poured-length (slots s) (s .table .chunk) (p .slab) (p .enough) i h v (p .short) in omega (arith, p .enough);
+    short = p .short;
+    bytes = poured-own (slots s) (s .table .chunk) (p .slab) (p .enough) i h v (p .short);
+  }
 
   stored-other : (i : ℕ) (v : List ℕ) → i < slots s → Pours s i v x y → (j n : ℕ) (w : List ℕ) → (j ≡ i → ⊥) → Stored (slots s) (s .table .chunk) o j n w → Stored (slots s) (s .table .chunk) (or-else y o) j n w
   stored-other i v h p j n w ne st = record {
-      slab = written (p .slab) (start s i) v;
-      left = ap (λ (a : Option (List ℕ)). or-else a o) (p .left);
-      enough = let e = poured-length (slots s) (s .table .chunk) (p .slab) (p .enough) i h v (p .short) in omega (arith, p .enough);
-      short = st .short;
-      bytes = poured-other (slots s) (s .table .chunk) (p .slab) (p .enough) i h v (p .short) j n ne (st .short)
+    slab = written (p .slab) (start s i) v;
+    left = ap (λ (a : Option (List ℕ)). or-else a o) (p .left);
+    enough = let e = poured-length (slots s) (s .table .chunk) (p .slab) (p .enough) i h v (p .short) in omega (arith, p .enough);
+    short = st .short;
+    bytes = poured-other (slots s) (s .table .chunk) (p .slab) (p .enough) i h v (p .short) j n ne (st .short)
         ∙ ap (λ (a : List ℕ). take n (drop (j * s .table .chunk) a)) (du (p .slab) (st .slab) (p .given) (st .left)) ∙ st .bytes;
-    }
+  }
 
   stored-stay : y ≡ x → (j n : ℕ) (w : List ℕ) → Stored (slots s) (s .table .chunk) o j n w → Stored (slots s) (s .table .chunk) (or-else y o) j n w
   stored-stay q j n w st = record { slab = st .slab; left = left-same x y o (st .slab) du q (st .left); enough = st .enough; short = st .short; bytes = st .bytes }
@@ -197,8 +198,8 @@ owned-kept s i x y o du (left-as-it-was q) a b e f = ap (owned (s .table .chunk)
 owned-kept s i x y o du (poured-into j v h ne p) a b e f =
     let c : written (p .slab) (start s j) v ≡ b = some-is (sym (ap (λ (z : Option (List ℕ)). or-else z o) (p .left)) ∙ f) in
     ap (owned (s .table .chunk) i) (sym (du (p .slab) a (p .given) e))
-      ∙ sym (poured-other (slots s) (s .table .chunk) (p .slab) (p .enough) j h v (p .short) i (s .table .chunk) ne (omega arith))
-      ∙ ap (owned (s .table .chunk) i) c
+    ∙ sym (poured-other (slots s) (s .table .chunk) (p .slab) (p .enough) j h v (p .short) i (s .table .chunk) ne (omega arith))
+    ∙ ap (owned (s .table .chunk) i) c
 
 -- The promises of a line.
 module _ {K : Type 0} (same : K → K → Bool) (home : K → ℕ) (laws : SameLaws same home)
@@ -212,8 +213,8 @@ module _ {K : Type 0} (same : K → K → Bool) (home : K → ℕ) (laws : SameL
   lengths-kept (e ∷ es) t (s, l, st) =
       let so = sounds m es s l in
       carry same laws s so es (agrees same home laws sounds m es s l) t (slab-in e) (slab-out e)
-        (λ (i n : ℕ) (v : List ℕ). n ≡ length v) (λ (i n : ℕ) (v : List ℕ). n ≡ length v)
-        (λ i v h p. refl) (λ i v h p j n w ne z. z) (λ q j n w z. z) (effect e) (shifts same s so laws e t st) (lengths-kept es s l)
+      (λ (i n : ℕ) (v : List ℕ). n ≡ length v) (λ (i n : ℕ) (v : List ℕ). n ≡ length v)
+      (λ i v h p. refl) (λ i v h p j n w ne z. z) (λ q j n w z. z) (effect e) (shifts same s so laws e t st) (lengths-kept es s l)
 
   pub stored-line : (es : List (Event K)) (s : State K) → Line same m es s → Dutiful same es → Of-held (Stored (slots s) (s .table .chunk) (slab-left es)) (last-value same es) s
   stored-line [] s l du i k e = absurd (none-some (ap (λ (x : State K). key-at (x .directory) i) l ∙ made-empty m i) e)
@@ -221,9 +222,9 @@ module _ {K : Type 0} (same : K → K → Bool) (home : K → ℕ) (laws : SameL
       let so = sounds m es s l in
       let fr = frames same s so e t st in
       let z = carry same laws s so es (agrees same home laws sounds m es s l) t (slab-in e) (slab-out e)
-            (Stored (slots s) (s .table .chunk) (slab-left es)) (Stored (slots s) (s .table .chunk) (slab-left (e ∷ es)))
-            (stored-own s (slab-in e) (slab-out e) (slab-left es) (du .0)) (stored-other s (slab-in e) (slab-out e) (slab-left es) (du .0)) (stored-stay s (slab-in e) (slab-out e) (slab-left es) (du .0))
-            (effect e) (shifts same s so laws e t st) (stored-line es s l (du .1)) i k h in
+      (Stored (slots s) (s .table .chunk) (slab-left es)) (Stored (slots s) (s .table .chunk) (slab-left (e ∷ es)))
+      (stored-own s (slab-in e) (slab-out e) (slab-left es) (du .0)) (stored-other s (slab-in e) (slab-out e) (slab-left es) (du .0)) (stored-stay s (slab-in e) (slab-out e) (slab-left es) (du .0))
+      (effect e) (shifts same s so laws e t st) (stored-line es s l (du .1)) i k h in
       rw (fr .slots-same, fr .chunk) z
 
   answers-value : (es : List (Event K)) (s : State K) → Line same m es s → (e : Event K) (t : State K) → Step same s e t → Dutiful same (e ∷ es) → Answers-value same e es
@@ -246,9 +247,10 @@ module _ {K : Type 0} (same : K → K → Bool) (home : K → ℕ) (laws : SameL
 
   pub bytes-kept : (es : List (Event K)) (s : State K) → Line same m es s → Dutiful same es → Bytes-kept same (chunk-size (m .chunk)) es
   bytes-kept [] s l du = tt
-  bytes-kept (e ∷ es) t (s, l, st) du =
-      (λ n k h w a b p q.
+  bytes-kept (e ∷ es) t (s, l, st) du = (
+    λ n k h w a b p q.
         let ag = agrees same home laws sounds m es s l .leased n k h in
         let el = elsewhere s t (slab-in e) (slab-out e) n (ag .3) (ag .4) same (effect e) (shifts same s (sounds m es s l) laws e t st) w in
         subst (λ (c : ℕ). owned c (n .slot) a ≡ owned c (n .slot) b) (line-chunk es s l) (owned-kept s (n .slot) (slab-in e) (slab-out e) (slab-left es) (du .0) el a b p q),
-       bytes-kept es s l (du .1))
+    bytes-kept es s l (du .1),
+  )

@@ -91,8 +91,13 @@ module _ {K : Type 0} (same : K → K → Bool) {home : K → ℕ} (laws : SameL
       record { slot = f .slot; held = f .held; inside = f .inside; alike = f .alike; patient = patient-first same laws n mark (f .slot) (f .inside) (f .held) k (f .alike) c w (f .there) }
   waited (d ∷ since) before e k c w (v, l, m) to un =
       let p = waited since before e k c v l to (un .1) in
-      record { slot = p .slot; held = p .held; inside = p .inside; alike = p .alike;
-        patient = patient-step same laws n mark (p .slot) (p .inside) (p .held) k (p .alike) c (evictions since) m (fine-line same laws n mark (since ++ (e ∷ before)) v l) (un .0 .not-requested) (un .0 .not-dropped) (un .0 .not-evicted) (p .patient) }
+      record {
+        slot = p .slot;
+        held = p .held;
+        inside = p .inside;
+        alike = p .alike;
+        patient = patient-step same laws n mark (p .slot) (p .inside) (p .held) k (p .alike) c (evictions since) m (fine-line same laws n mark (since ++ (e ∷ before)) v l) (un .0 .not-requested) (un .0 .not-dropped) (un .0 .not-evicted) (p .patient);
+      }
 
 pub waiting-bounded : {K : Type 0} (same : K → K → Bool) (home : K → ℕ) → SameLaws same home → (m : Making K) (es : List (Event K)) (s : State K) → Line same m es s → Waiting-bounded same (slots (made m)) es
 waiting-bounded same home laws m es s l since before e k c q to un =

@@ -24,10 +24,10 @@ chunk-size n = max (min n 4096) 1
 -- The order is emptied, and the directory is emptied at the lesser of 1,024 and the order's size.
 abbrev pub made : {K : Type 0} → Making K → State K
 made m = record {
-    directory = emptied-directory (m .directory) (min 1024 (m .order .size));
-    order = emptied (m .order);
-    table = record { mark = m .mark; chunk = chunk-size (m .chunk); records = replicate 1024 blank };
-  }
+  directory = emptied-directory (m .directory) (min 1024 (m .order .size));
+  order = emptied (m .order);
+  table = record { mark = m .mark; chunk = chunk-size (m .chunk); records = replicate 1024 blank };
+}
 
 -- the events, the newest first, lead from the making to the state
 abbrev pub Line : {K : Type 0} → (K → K → Bool) → Making K → List (Event K) → State K → Type 0

@@ -1,0 +1,4 @@
+mod Keeps
+mod Lends
+mod Slabs
+mod States

@@ -1,0 +1,4 @@
+pub mod Keeping
+pub mod Leases
+pub mod Parts
+pub mod Whole

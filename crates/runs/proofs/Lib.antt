@@ -1,0 +1,6 @@
+pub mod Arms
+pub mod Goes
+pub mod Chains
+pub mod Covers
+pub mod Closes
+pub mod Ran
