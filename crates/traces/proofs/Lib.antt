@@ -1,0 +1,17 @@
+pub mod Numbers
+pub mod Laid
+pub mod Ranges
+pub mod Cuts
+pub mod Faulty
+pub mod Reading
+pub mod Whole
+pub mod Writing
+pub mod Fitting
+pub mod Words
+pub mod Back
+pub mod Exact
+pub mod Said
+pub mod Decided
+pub mod Printing
+pub mod Tallies
+pub mod Computed

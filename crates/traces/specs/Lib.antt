@@ -1,0 +1,11 @@
+pub mod Cut
+pub mod Forms
+pub mod Faults
+pub mod Tables
+pub mod Layout
+pub mod Rendering
+pub mod Words
+pub mod Traces
+pub mod Outcomes
+pub mod Reports
+pub mod Example

@@ -1,0 +1,56 @@
+//! Traces of wanted regions: an exact reader and writer of the text that keeps one, the report of a run over it, and
+//! the tables in which report and faults are printed. Depends on `keys`, and on `promises` for
+//! the refusals of a cache.
+mod faults;
+mod lines;
+mod outcomes;
+mod printer;
+mod reader;
+mod report;
+mod rows;
+mod table;
+mod text;
+mod trace;
+mod values;
+mod writer;
+
+pub use faults::Fault;
+pub use faults::FaultDebug;
+pub use faults::FaultFromRow;
+pub use faults::FaultKind;
+pub use faults::FaultKindDebug;
+pub use faults::FaultKindPartialEq;
+pub use faults::FaultPartialEq;
+pub use faults::Layer;
+pub use faults::LayerDebug;
+pub use faults::LayerPartialEq;
+pub use faults::ReadError;
+pub use faults::ReadErrorDebug;
+pub use faults::ReadErrorPartialEq;
+pub use faults::RowFault;
+pub use outcomes::Counts;
+pub use outcomes::CountsDebug;
+pub use outcomes::CountsPartialEq;
+pub use outcomes::Eviction;
+pub use outcomes::EvictionDebug;
+pub use outcomes::EvictionPartialEq;
+pub use outcomes::Outcome;
+pub use outcomes::OutcomeDebug;
+pub use outcomes::OutcomePartialEq;
+pub use printer::example_stands;
+pub use printer::fault_len;
+pub use printer::report_len;
+pub use printer::write_fault;
+pub use printer::write_report;
+pub use reader::check;
+pub use reader::layout_stands;
+pub use reader::read_trace;
+pub use report::Report;
+pub use rows::Header;
+pub use rows::HeaderDebug;
+pub use rows::HeaderPartialEq;
+pub use rows::Row;
+pub use rows::RowDebug;
+pub use rows::RowPartialEq;
+pub use trace::Trace;
+pub use writer::write_trace;
