@@ -49,8 +49,8 @@ alike-kept n i r t b e h =
     let here : out-at (with-record n i r) i ≡ out-at n i = ap (λ (x : Record). is-out (x .lending)) (getD-set-same (n .records) i r blank b) ∙ ap is-out e in
     known-if n (with-record n i r) t refl
     (λ o. ⊎-elim (λ q. subst (λ (j : ℕ). out-at n j ≡ true → out-at (with-record n i r) j ≡ true) (sym q) (λ z. here ∙ z) o)
-        (λ ne. ap (λ (x : Record). is-out (x .lending)) (getD-set-other (n .records) i (t .slot) r blank ne) ∙ o)
-        (cases-eq (t .slot) i))
+    (λ ne. ap (λ (x : Record). is-out (x .lending)) (getD-set-other (n .records) i (t .slot) r blank ne) ∙ o)
+    (cases-eq (t .slot) i))
     h
 
 module _ {K : Type 0} (same : K → K → Bool) where

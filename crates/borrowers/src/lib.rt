@@ -9,7 +9,6 @@ ghost use Rattle.promises.specs.Steps.{Step};
 ghost use Rattle.cache.specs.Leases.{ticket-of};
 ghost use Rattle.cache.specs.Whole.{state-of, Good};
 ghost use Rattle.borrowers.specs.Loans.{Rewrites, Keeps-leases};
-
 use cache::Cache;
 use cache::Lease;
 use cache::Refusal;

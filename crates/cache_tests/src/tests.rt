@@ -32,15 +32,21 @@ use std::test::*;
 
 // Each cache of these tests has two slots of four bytes, if it has any.
 const CHUNK: usize = 4;
+
 const WHOLE: usize = 8;
+
 const SHORT: usize = 7;
+
 const NONE: Text = Text { letter: 0, len: 0 };
+
 const ONE: Text = Text { letter: 1, len: 1 };
+
 const TWO: Text = Text { letter: 2, len: 4 };
+
 const LONG: Text = Text { letter: 3, len: 5 };
 
-// While nothing is out, with a lease of another cache in hand. It leaves the first key held, at cost 5, with no bytes.
-fn waiting() -> [Step; 31] {
+// While nothing is held, with a lease of another cache in hand.
+fn unheld() -> [Step; 17] {
     [
         Step::State(Name::A, Answer::Absent),
         Step::Get(Name::A, WHOLE, Answer::Missing),
@@ -56,7 +62,18 @@ fn waiting() -> [Step; 31] {
         Step::Keep(Name::A, 5, LONG, SHORT, Answer::Refused(2)),
         Step::Keep(Name::A, 5, LONG, WHOLE, Answer::Refused(2)),
         Step::Keep(Name::A, 5, ONE, SHORT, Answer::Refused(3)),
+        // 2 before 3 and 4, and 3 before 4
+        Step::Write(LONG, SHORT, Answer::Refused(2)),
+        Step::Write(LONG, WHOLE, Answer::Refused(2)),
+        Step::Write(ONE, SHORT, Answer::Refused(3)),
+        Step::Write(ONE, WHOLE, Answer::Refused(4)),
         Step::State(Name::A, Answer::Absent),
+    ]
+}
+
+// While nothing is out. It leaves the first key held, at cost 5, with no bytes.
+fn waiting() -> [Step; 14] {
+    [
         Step::Keep(Name::A, 5, TWO, WHOLE, Answer::Taken),
         Step::Get(Name::A, WHOLE, Answer::Found(TWO)),
         Step::Keep(Name::A, 5, NONE, WHOLE, Answer::Refreshed),
@@ -74,11 +91,6 @@ fn waiting() -> [Step; 31] {
         Step::Drop(Name::D, Answer::Done),
         Step::Drop(Name::D, Answer::Refused(5)),
         Step::State(Name::A, Answer::Waiting),
-        // 2 and 3 before 4, and 2 before 3
-        Step::Write(LONG, SHORT, Answer::Refused(2)),
-        Step::Write(LONG, WHOLE, Answer::Refused(2)),
-        Step::Write(ONE, SHORT, Answer::Refused(3)),
-        Step::Write(ONE, WHOLE, Answer::Refused(4)),
     ]
 }
 
@@ -177,6 +189,7 @@ fn alike<K: Key, D: Directory<K>, O: Order>(
 {
     let mut spare = [0; WHOLE];
     let _ = other.keep(keys.a, 1, &[1], &mut spare);
+    play_foreign(cache, slab, other, keys, &unheld())?;
     play_foreign(cache, slab, other, keys, &waiting())?;
     play_lent(cache, slab, Name::A, keys, &one_out())?;
     play_two_lent(cache, slab, Name::A, Name::C, keys, &both_out())?;
@@ -242,7 +255,14 @@ fn regions_numbered_in_a_flat_order() -> Result<(), Fail> {
     let keys = regions();
     let played = alike(&mut cache, &mut slab, &mut other, &keys);
     let idle = play_foreign(&mut cache, &mut slab, &mut other, &keys, &not_admitted());
-    let lent = play_two_lent(&mut cache, &mut slab, Name::A, Name::C, &keys, &not_admitted());
+    let lent = play_two_lent(
+        &mut cache,
+        &mut slab,
+        Name::A,
+        Name::C,
+        &keys,
+        &not_admitted(),
+    );
     let _parts = cache.into_parts();
     let _others = other.into_parts();
     played?;

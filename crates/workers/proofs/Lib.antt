@@ -1,0 +1,2 @@
+mod Collapses
+mod Packs

@@ -1,0 +1,16 @@
+use Rattle.std.specs.declared.result.Result.the-variants.{Err}
+use Rattle.keys.specs.Regions.{same-number}
+use Rattle.borrowers.proofs.Loans.{keeps-all, lease-keeps, loan-keeps}
+use Rattle.workers.proofs.calls.lend.Needs as need
+
+pub returns-in-Err : need.returns-in-Err
+returns-in-Err g c = record {
+  good = c .lease .ensures .good;
+  leases = lease-keeps same-number _ _ (c .args .key) (Err _) (c .in-Err .ensures tt .step);
+}
+
+pub returns-in-Ok : need.returns-in-Ok
+returns-in-Ok g c = record {
+  good = c .hand-back .ensures .good;
+  leases = loan-keeps same-number _ _ _ _ (c .args .key) _ (c .in-Ok .ensures tt .step) (keeps-all same-number _) (c .hand-back .ensures .step);
+}
