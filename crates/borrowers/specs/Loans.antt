@@ -1,6 +1,6 @@
 -- Loans: what worker code does between a lease and its give-back.
 use mathlib.Core.Path.{_≡_}
-use mathlib.Core.Bool.{Bool, true}
+use mathlib.Core.Bool.{Bool}
 use mathlib.Core.List.{List}
 use Prim.Native.Nat.{ℕ}
 use Rattle.std.specs.declared.result.Result.{Result}
@@ -11,9 +11,9 @@ use Rattle.promises.specs.State.{State, known}
 use Rattle.promises.specs.Events.{leases, writes, gives-back}
 use Rattle.promises.specs.Steps.{Step}
 
--- whoever has a lease before has it after
+-- exactly those leases are out after that were out before
 pub record Keeps-leases {K : Type 0} (s u : State K) : Type 0 where
-  pub kept : (t : Ticket) → known (s .table) t ≡ true → known (u .table) t ≡ true
+  pub kept : (t : Ticket) → known (u .table) t ≡ known (s .table) t
 
 -- A region is leased, written and given back: where the lease is refused, that is the answer and nothing changes; else the write's answer is.
 pub data Rewrites {K : Type 0} (same : K → K → Bool) (s : State K) (k : K) (v slab : List ℕ) : Result (Unit {0}) Refusal → State K → List ℕ → Type 0 where

@@ -17,7 +17,7 @@ use keys::Key;
 use orders::Order;
 
 /// Leases a region, writes a value to it and gives it back, also where the write is refused. The answer is the lease's refusal, or else
-/// the write's answer. Every other lease stays out.
+/// the write's answer. It leaves exactly those leases out that were out before.
 pub fn rewrite<K: Key, D: Directory<K>, O: Order>(
     cache: &mut Cache<K, D, O>,
     key: &K,

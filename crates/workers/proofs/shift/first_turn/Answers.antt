@@ -1,19 +1,19 @@
-use Rattle.std.specs.declared.result.Result.the-variants.{Err}
+use mathlib.Core.Path.{_∙_}
 use Rattle.keys.specs.Regions.{same-number}
-use Rattle.borrowers.proofs.Loans.{keeps-on, lease-keeps, loan-keeps}
+use Rattle.borrowers.proofs.Loans.{keeps-on, refused-keeps, loan-keeps}
 use Rattle.workers.proofs.shift.first_turn.Needs as need
 
 pub hand-back-requires : need.hand-back-requires
-hand-back-requires g c κs = record { good = c .meanwhile .ensures .good; known = (keeps-on same-number (c .collapse-twice .ensures .leases) (c .meanwhile .ensures .leases)) .kept _ (c .in-Ok .ensures tt .known) }
+hand-back-requires g c κs = record { good = c .meanwhile .ensures .good; known = (keeps-on same-number (c .collapse-twice .ensures .leases) (c .meanwhile .ensures .leases)) .kept _ ∙ c .in-Ok .ensures tt .known }
 
 pub returns-in-Err : need.returns-in-Err
 returns-in-Err g c = record {
   good = c .lease .ensures .good;
-  leases = lease-keeps same-number _ _ (record { number = 1 }) (Err _) (c .in-Err .ensures tt .step);
+  leases = refused-keeps same-number _ _ (record { number = 1 }) _ (c .in-Err .ensures tt .step);
 }
 
 pub returns-in-Ok : need.returns-in-Ok
 returns-in-Ok g c = record {
   good = c .hand-back .ensures .good;
-  leases = loan-keeps same-number _ _ _ _ (record { number = 1 }) _ (c .in-Ok .ensures tt .step) (keeps-on same-number (c .collapse-twice .ensures .leases) (c .meanwhile .ensures .leases)) (c .hand-back .ensures .step);
+  leases = loan-keeps same-number _ _ _ _ (record { number = 1 }) _ (c .meanwhile .ensures .good .sound) (c .in-Ok .ensures tt .step) (keeps-on same-number (c .collapse-twice .ensures .leases) (c .meanwhile .ensures .leases)) (c .hand-back .ensures .step);
 }
