@@ -24,7 +24,7 @@ abbrev pub note : {K : Type 0} → Option (Event K) → List (Event K) → List 
 note None es = es
 note (Some e) es = e ∷ es
 
-noted-first : {K : Type 0} (c : Option (Event K)) (cs : List (Option (Event K))) (es : List (Event K)) → noted (c ∷ cs) es ≡ noted cs (note c es)
+pub noted-first : {K : Type 0} (c : Option (Event K)) (cs : List (Option (Event K))) (es : List (Event K)) → noted (c ∷ cs) es ≡ noted cs (note c es)
 noted-first None cs es = refl
 noted-first (Some e) cs es = refl
 

@@ -61,7 +61,7 @@ same-known n a b h =
     let f : a .slot ≡ b .slot = eqb-true (a .slot) (b .slot) (p .1) in
     ap (λ (x : ℕ). eqb x (n .mark) && out-at n (a .slot)) e ∙ ap (λ (x : ℕ). eqb (b .mark) (n .mark) && out-at n x) f
 
-refused-unknown : {K : Type 0} (s : State K) (t : Ticket) (e : Refusal) → give-back-fault s t ≡ Some e → known (s .table) t ≡ false
+pub refused-unknown : {K : Type 0} (s : State K) (t : Ticket) (e : Refusal) → give-back-fault s t ≡ Some e → known (s .table) t ≡ false
 refused-unknown s t e h =
     ⊎-elim
     (λ k. let w : cond (not (known (s .table) t)) (Some UnknownLease) None ≡ None = cond-false (not (known (s .table) t)) (Some UnknownLease) None (not-from-true (known (s .table) t) k) in

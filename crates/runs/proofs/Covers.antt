@@ -50,7 +50,7 @@ has-removed t (m ∷ ls) zero l q d h =
 has-removed t (m ∷ ls) (suc n) l q d h =
     ⊎-elim (λ y. or-left (same-ticket (ticket-of m) t) (has t (removed ls n)) y) (λ y. or-right (same-ticket (ticket-of m) t) (has t (removed ls n)) (has-removed t ls n l q d y)) (or-cases (same-ticket (ticket-of m) t) (has t ls) h)
 
-same-hand : (h g : Hand) → g ≡ h → g .leases ≡ h .leases
+pub same-hand : (h g : Hand) → g ≡ h → g .leases ≡ h .leases
 same-hand h g e = ap (λ (x : Hand). x .leases) e
 
 module _ {K : Type 0} where
@@ -59,22 +59,22 @@ module _ {K : Type 0} where
   Covers es ls = (t : Ticket) (k : K) → lent es t ≡ Some k → has t ls ≡ true
 
   -- calls that lend nothing and take nothing back
-  lent-get : (k : K) (slab : List ℕ) (r : Result (Option Part) Refusal) (es : List (Event K)) (t : Ticket) → lent (gets k slab r ∷ es) t ≡ lent es t
+  pub lent-get : (k : K) (slab : List ℕ) (r : Result (Option Part) Refusal) (es : List (Event K)) (t : Ticket) → lent (gets k slab r ∷ es) t ≡ lent es t
   lent-get k slab (Err e) es t = refl
   lent-get k slab (Ok None) es t = refl
   lent-get k slab (Ok (Some p)) es t = refl
 
-  lent-keep : (k : K) (c : ℕ) (v slab : List ℕ) (r : Result (Kept (Evicted K)) Refusal) (after : List ℕ) (es : List (Event K)) (t : Ticket) → lent (keeps k c v slab r after ∷ es) t ≡ lent es t
+  pub lent-keep : (k : K) (c : ℕ) (v slab : List ℕ) (r : Result (Kept (Evicted K)) Refusal) (after : List ℕ) (es : List (Event K)) (t : Ticket) → lent (keeps k c v slab r after ∷ es) t ≡ lent es t
   lent-keep k c v slab (Err e) after es t = refl
   lent-keep k c v slab (Ok Refreshed) after es t = refl
   lent-keep k c v slab (Ok Taken) after es t = refl
   lent-keep k c v slab (Ok (TakenEvicting e)) after es t = refl
 
-  lent-write : (x : Ticket) (v slab : List ℕ) (r : Result (Unit {0}) Refusal) (after : List ℕ) (es : List (Event K)) (t : Ticket) → lent (writes x v slab r after ∷ es) t ≡ lent es t
+  pub lent-write : (x : Ticket) (v slab : List ℕ) (r : Result (Unit {0}) Refusal) (after : List ℕ) (es : List (Event K)) (t : Ticket) → lent (writes x v slab r after ∷ es) t ≡ lent es t
   lent-write x v slab (Err e) after es t = refl
   lent-write x v slab (Ok u) after es t = refl
 
-  lent-drop : (k : K) (r : Result (Unit {0}) Refusal) (es : List (Event K)) (t : Ticket) → lent (drops k r ∷ es) t ≡ lent es t
+  pub lent-drop : (k : K) (r : Result (Unit {0}) Refusal) (es : List (Event K)) (t : Ticket) → lent (drops k r ∷ es) t ≡ lent es t
   lent-drop k (Err e) es t = refl
   lent-drop k (Ok u) es t = refl
 

@@ -3,4 +3,5 @@ pub mod Goes
 pub mod Chains
 pub mod Covers
 pub mod Closes
+pub mod Lives
 pub mod Ran

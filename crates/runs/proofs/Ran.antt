@@ -22,6 +22,7 @@ use Rattle.runs.specs.Runs.{Asked, noted, Goes, tries, Scene, scene, Ran}
 use Rattle.runs.proofs.Chains.{line-all, Chained, chain-all}
 use Rattle.runs.proofs.Covers.{Covers, covers-all}
 use Rattle.runs.proofs.Closes.{closes}
+use Rattle.runs.proofs.Lives.{Live, live-all, empties}
 
 covers-none : {K : Type 0} (ls : List Lease) → Covers {K = K} [] ls
 covers-none ls t k z = let y : _≡_ {A = ℕ} 0 1 = cc in absurd (omega arith)
@@ -44,6 +45,10 @@ module _ {K D O : Type 0} (same : K → K → Bool) (home : K → ℕ) (d : OfDi
       let a : Asked (hand (mid .leases ++ []) (mid .slab)) (replicate (length (mid .leases)) (AskGive 0)) (q .calls) h
       = subst (λ (f : List Lease). Asked (hand f (mid .slab)) (tries (mid .leases)) (q .calls) h) (sym (append-nil (mid .leases))) (q .asked) in
       let b = closes same m every (mid .leases) [] (mid .slab) (q .calls) es s (state-of d o c′) h l w tt a (q .passes) in
+      let left : before .hand .leases ≡ [] → h .leases ≡ [] = λ n.
+      let g : Live {K = K} [] (before .hand .leases) = subst (λ (ls : List Lease). Live {K = K} [] ls) (sym n) tt in
+      let i : Live es (mid .leases) = live-all same m every (before .hand) mid asks (r .calls) [] (state-of d o c) s e (r .asked) (r .passes) g in
+      empties same m every (mid .leases) (mid .slab) (q .calls) es s (state-of d o c′) h l i (q .asked) (q .passes) in
       let f = every fs (state-of d o c′) k in
       record {
         calls = r .calls;
@@ -63,6 +68,7 @@ module _ {K D O : Type 0} (same : K → K → Bool) (home : K → ℕ) (d : OfDi
         slab-after = z .left;
         none-out = b .0;
         unknown = b .1;
+        none-left = left;
         directory-valid = subst (λ (g : D). d .valid same home g) (sym p) (good .directory);
         order-valid = subst (λ (g : O). o .valid g) (sym v) (good .order);
         directory-after = ap (λ (g : D). d .meaning g) p;

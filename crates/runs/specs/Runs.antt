@@ -113,6 +113,8 @@ pub record Ran {K D O : Type 0} (same : K → K → Bool) (home : K → ℕ) (d 
   -- nothing is out, and no lease that comes back is of this cache
   pub none-out : (t : Ticket) → lent events t ≡ None
   pub unknown : Unknown (last .table) (after .hand .leases)
+  -- a host that hands in no lease gets none back: each lease that it had was of this cache, and was given back
+  pub none-left : before .hand .leases ≡ [] → after .hand .leases ≡ []
   -- the parts that come back are valid, and stand for the last state
   pub directory-valid : d .valid same home (after .directory)
   pub order-valid : o .valid (after .order)

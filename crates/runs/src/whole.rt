@@ -42,8 +42,9 @@ fn has_room<K: Key>(asks: usize, leases: &Vec<Lease>, happenings: &Vec<Happening
 }
 
 /// Makes a cache of its parts, does all that is asked, and at the end tries to give back each lease in hand. `leases` are those in hand,
-/// of other caches at first; each accepted lease is added, and what is left there is declined by this cache. `happenings` gains one entry
-/// for each ask and one for each lease that is tried. Nothing is allocated: where the two lists might not have the room, no call is made.
+/// of other caches at first; each accepted lease is added, and what is left there is declined by this cache: none, if none was handed in.
+/// `happenings` gains one entry for each ask and one for each lease that is tried. Nothing is allocated: where the two lists might not have
+/// the room, no call is made.
 pub fn run_in<K: Key, D: Directory<K>, O: Order>(
     directory: D,
     order: O,
