@@ -11,7 +11,7 @@ returns-in-Err g c = record {
 
 pub returns-in-Ok : goal.returns-in-Ok
 returns-in-Ok g c = record {
-  good = c.hand-back.ensures.good;
-  does = served _ _ _ _ _ _ c.in-Ok.ensures.step c.write-answer.ensures.step c.hand-back.ensures.step;
-  others = loan_keeps g.K.Key.sameness _ _ _ _ _ _ c.write-answer.ensures.good.sound c.in-Ok.ensures.step (write_keeps g.K.Key.sameness _ _ _ _ _ _ _ c.lease.ensures.good.sound c.write-answer.ensures.step) c.hand-back.ensures.step;
+  good = c.hand_back.ensures.good;
+  does = served _ _ _ _ _ _ c.in-Ok.ensures.step c.write-answer.ensures.step c.hand_back.ensures.step;
+  others = loan_keeps g.K.Key.sameness _ _ _ _ _ _ c.write-answer.ensures.good.sound c.in-Ok.ensures.step (write_keeps g.K.Key.sameness _ _ _ _ _ _ _ c.lease.ensures.good.sound c.write-answer.ensures.step) c.hand_back.ensures.step;
 }

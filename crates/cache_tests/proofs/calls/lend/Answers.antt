@@ -9,6 +9,6 @@ returns-in-Err g c = record {
 
 pub returns-in-Ok : goal.returns-in-Ok
 returns-in-Ok g c = record {
-  good = c.hand-back.ensures.good;
-  leases = loan_keeps g.K.Key.sameness _ _ _ _ c.args.key _ c.lease.ensures.good.sound c.in-Ok.ensures.step (keeps_all g.K.Key.sameness _) c.hand-back.ensures.step;
+  good = c.hand_back.ensures.good;
+  leases = loan_keeps g.K.Key.sameness _ _ _ _ c.args.key _ c.lease.ensures.good.sound c.in-Ok.ensures.step (keeps_all g.K.Key.sameness _) c.hand_back.ensures.step;
 }

@@ -8,7 +8,7 @@ loop-i-init g c =
     near_start g.K.Key.place c.args.size
     (keys_of c.args.cells.now) (heads_of c.args.cells.now) (nexts_of c.args.cells.now) c.requires.chained
     c.args.bucket c.args.s c.requires.bucket c.requires.below
-    c.head-at-i.result c.head-at-i.ensures
+    c.head_at-i.result c.head_at-i.ensures
 
 pub loop-i-preserved : goal.loop-i-preserved
 loop-i-preserved g c =
@@ -16,15 +16,15 @@ loop-i-preserved g c =
     near_next g.K.Key.place c.args.size
     (keys_of c.args.cells.now) (heads_of c.args.cells.now) (nexts_of c.args.cells.now) c.requires.chained
     c.args.bucket c.args.s c.requires.bucket c.requires.below
-    c.loop-i.i c.next-at-i.result c.loop-i.last c.loop-i.invariant is c.next-at-i.ensures
+    c.loop-i.i c.next_at-i.result c.loop-i.last c.loop-i.invariant is c.next_at-i.ensures
 
 pub loop-i-smaller : goal.loop-i-smaller
 loop-i-smaller g c =
     let is : c.loop-i.i < c.args.s = omega (arith, c.loop-i-test.true) in
-    let on : c.loop-i.i < c.next-at-i.result = near_on g.K.Key.place c.args.size
+    let on : c.loop-i.i < c.next_at-i.result = near_on g.K.Key.place c.args.size
     (keys_of c.args.cells.now) (heads_of c.args.cells.now) (nexts_of c.args.cells.now) c.requires.chained
     c.args.bucket c.args.s c.requires.bucket c.requires.below
-    c.loop-i.i c.next-at-i.result c.loop-i.last c.loop-i.invariant is c.next-at-i.ensures in
+    c.loop-i.i c.next_at-i.result c.loop-i.last c.loop-i.invariant is c.next_at-i.ensures in
     omega arith
 
 pub returns : goal.returns

@@ -8,8 +8,8 @@ returns-in-Some g c =
     let bm : c.home.result % c.args.size < c.args.size = search rules in
     let done = moved_out g.K.Key.place c.args.size c.args.cells.now c.args.s c.in-Some.k c.home.result c.before-p.result
     c.home.ensures c.requires.chained c.requires.below c.requires.within bm c.before-p.ensures
-    c.set-link.new.cells c.set-key.new.cells c.link-n.result (sym c.in-Some.ensures)
-    c.link-n.ensures c.set-link.ensures c.set-key.ensures in
+    c.set_link.new.cells c.set_key.new.cells c.link-n.result (sym c.in-Some.ensures)
+    c.link-n.ensures c.set_link.ensures c.set_key.ensures in
     record { keys = done.keys; frees = done.frees; chained = done.chained; rest = done.rest }
 
 pub returns-in-default : goal.returns-in-default

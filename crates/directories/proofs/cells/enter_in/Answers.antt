@@ -22,12 +22,12 @@ returns-in-Some g c = record {
   rest = refl;
 }
 
-pub chain-in-requires : goal.chain-in-requires
-chain-in-requires g c =
+pub chain_in-requires : goal.chain_in-requires
+chain_in-requires g c =
     let pos : 0 < c.args.free = omega (arith, c.if-free-eq0.false) in
     let lg = long g.met.K.Key.laws c.requires in
     let pop = popped c.args.size (keys_of c.args.cells.now) (frees_of c.args.cells.now) c.args.free c.requires.stacked lg
-    c.free-at-s.result c.args.key pos c.free-at-s.ensures in
+    c.free_at-s.result c.args.key pos c.free_at-s.ensures in
     record {
       within = c.requires.within;
       small = c.requires.small;
@@ -41,11 +41,11 @@ returns g c =
     let pos : 0 < c.args.free = omega (arith, c.if-free-eq0.false) in
     record {
       kept = enter_sound g.met.K.Key.laws c.requires
-          c.args.key c.free-at-s.result c.chain-in.new.cells pos c.free-at-s.ensures c.in-default.ensures
-          c.chain-in.auto.cells c.chain-in.ensures.keys c.chain-in.ensures.frees c.chain-in.ensures.chained;
+          c.args.key c.free_at-s.result c.chain_in.new.cells pos c.free_at-s.ensures c.in-default.ensures
+          c.chain_in.auto.cells c.chain_in.ensures.keys c.chain_in.ensures.frees c.chain_in.ensures.chained;
       took = pos;
       means = λ cap. enter_means g.met.K.Key.laws c.requires
-          c.args.key cap c.free-at-s.result c.chain-in.new.cells pos c.free-at-s.ensures c.in-default.ensures
-          c.chain-in.ensures.keys;
-      rest = c.chain-in.ensures.rest;
+          c.args.key cap c.free_at-s.result c.chain_in.new.cells pos c.free_at-s.ensures c.in-default.ensures
+          c.chain_in.ensures.keys;
+      rest = c.chain_in.ensures.rest;
     }

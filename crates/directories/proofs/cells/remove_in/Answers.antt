@@ -3,11 +3,11 @@ use Rattle.directories.specs.Cells.{keys_of, frees_of}
 use Rattle.directories.proofs.Entries.{room, remove_sound, find_means, remove_means, stay_means}
 use Rattle.directories.proofs.cells.remove_in.Goals as goal
 
-pub set-free-requires : goal.set-free-requires
-set-free-requires g c =
+pub set_free-requires : goal.set_free-requires
+set_free-requires g c =
     let fits : c.args.free < c.args.size = room g.met.K.Key.laws c.requires
     c.args.key.now c.in-Some.s c.in-Some.ensures in
-    omega (arith, c.requires.within, c.chain-out.auto.cells)
+    omega (arith, c.requires.within, c.chain_out.auto.cells)
 
 pub returns-in-None : goal.returns-in-None
 returns-in-None g c = record {
@@ -22,13 +22,13 @@ returns-in-None g c = record {
 pub returns-in-Some : goal.returns-in-Some
 returns-in-Some g c = record {
   kept = remove_sound g.met.K.Key.laws c.requires
-      c.args.key.now c.in-Some.s c.chain-out.new.cells c.set-free.new.cells c.in-Some.ensures
-      c.chain-out.auto.cells c.set-free.auto.cells c.chain-out.ensures.keys c.chain-out.ensures.frees c.chain-out.ensures.chained
-      c.set-free.ensures;
+      c.args.key.now c.in-Some.s c.chain_out.new.cells c.set_free.new.cells c.in-Some.ensures
+      c.chain_out.auto.cells c.set_free.auto.cells c.chain_out.ensures.keys c.chain_out.ensures.frees c.chain_out.ensures.chained
+      c.set_free.ensures;
   answer = λ cap. ap is_some (find_means g.met.K.Key.laws c.requires
       c.args.key.now (Some c.in-Some.s) cap c.in-Some.ensures);
   means = λ cap. remove_means g.met.K.Key.laws c.requires
-      c.args.key.now c.in-Some.s cap c.set-free.new.cells c.in-Some.ensures (c.set-free.ensures.keys ∙ c.chain-out.ensures.keys);
-  rest = c.set-free.ensures.rest c.args.size (room g.met.K.Key.laws c.requires
-      c.args.key.now c.in-Some.s c.in-Some.ensures) ∙ c.chain-out.ensures.rest;
+      c.args.key.now c.in-Some.s cap c.set_free.new.cells c.in-Some.ensures (c.set_free.ensures.keys ∙ c.chain_out.ensures.keys);
+  rest = c.set_free.ensures.rest c.args.size (room g.met.K.Key.laws c.requires
+      c.args.key.now c.in-Some.s c.in-Some.ensures) ∙ c.chain_out.ensures.rest;
 }

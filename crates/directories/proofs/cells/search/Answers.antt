@@ -9,7 +9,7 @@ loop-i-init g c =
     seek_start g.K.Key.sameness g.K.Key.place g.met.K.Key.laws c.args.size c.args.key.now
     (keys_of c.args.cells.now) (heads_of c.args.cells.now) (nexts_of c.args.cells.now) c.requires.chained
     (c.home.result % c.args.size) (ap (λ h. h % c.args.size) c.home.ensures) bm
-    c.head-at-i.result c.head-at-i.ensures
+    c.head_at-i.result c.head_at-i.ensures
 
 pub loop-i-preserved : goal.loop-i-preserved
 loop-i-preserved g c =
@@ -18,14 +18,14 @@ loop-i-preserved g c =
     seek_next g.K.Key.sameness g.K.Key.place g.met.K.Key.laws c.args.size c.args.key.now
     (keys_of c.args.cells.now) (heads_of c.args.cells.now) (nexts_of c.args.cells.now) c.requires.chained
     (c.home.result % c.args.size) (ap (λ h. h % c.args.size) c.home.ensures) bm
-    c.loop-i.i c.next-at-i.result c.loop-i.invariant im (sym c.if-held.ensures) c.next-at-i.ensures
+    c.loop-i.i c.next_at-i.result c.loop-i.invariant im (sym c.if-held.ensures) c.next_at-i.ensures
 
 pub loop-i-smaller : goal.loop-i-smaller
 loop-i-smaller g c =
     let im : c.loop-i.i < c.args.size = omega (arith, c.loop-i-test.true) in
     let bm : c.home.result % c.args.size < c.args.size = search rules in
-    let on : c.loop-i.i < c.next-at-i.result = seek_on g.K.Key.sameness g.K.Key.place g.met.K.Key.laws c.args.size c.args.key.now
+    let on : c.loop-i.i < c.next_at-i.result = seek_on g.K.Key.sameness g.K.Key.place g.met.K.Key.laws c.args.size c.args.key.now
     (keys_of c.args.cells.now) (heads_of c.args.cells.now) (nexts_of c.args.cells.now) c.requires.chained
     (c.home.result % c.args.size) (ap (λ h. h % c.args.size) c.home.ensures) bm
-    c.loop-i.i c.next-at-i.result c.loop-i.invariant im c.next-at-i.ensures in
+    c.loop-i.i c.next_at-i.result c.loop-i.invariant im c.next_at-i.ensures in
     omega arith

@@ -15,7 +15,7 @@ returns-in-Err c =
     let why = c.in-Err.reason in
     let count : length (vec_items v) ≡ c.len-line.result = sym (c.len-line.ensures ∙ v.ok.0) in
     lines_refused text (vec_items v) start i c.loop-i.invariant.1 c.loop-i.invariant.0 c.loop-i-test.true c.if-byte-eq10.true why
-    (c.in-Err.ensures ∙ ap (λ rs. row_of rs (between start i text)) c.as-slice.ensures.value)
+    (c.in-Err.ensures ∙ ap (λ rs. row_of rs (between start i text)) c.as_slice.ensures.value)
     ∙ ap (λ (n : ℕ). refusal (n + 2) why) count
 
 pub loop-i-preserved : goal.loop-i-preserved
@@ -27,12 +27,12 @@ loop-i-preserved c =
     let inv = c.loop-i.invariant in
     elim c.if-byte-eq10.branch [
       | then-byte-eq10+in-Ok w ↦
-          let told = w.in-Ok.ensures ∙ ap (λ rs. row_of rs (between start i text)) w.as-slice.ensures.value in
+          let told = w.in-Ok.ensures ∙ ap (λ rs. row_of rs (between start i text)) w.as_slice.ensures.value in
           let a = lines_row text (vec_items v) start i inv.1 inv.0 c.loop-i-test.true w.if-byte-eq10.true w.in-Ok.row told in
           let l = lines_long text (vec_items v) start i inv.1 inv.0 c.loop-i-test.true w.in-Ok.row told in
-          let items = w.push-reserved.ensures.items in
-          let len = w.push-reserved.ensures.len in
-          let cap = w.push-reserved.ensures.capacity in
+          let items = w.push_reserved.ensures.items in
+          let len = w.push_reserved.ensures.len in
+          let cap = w.push_reserved.ensures.capacity in
           let rs = w.rows-is in
           let st = w.start-is in
           let more : vec_len c.if-byte-eq10.rows ≡ vec_len v + 1 = cc in

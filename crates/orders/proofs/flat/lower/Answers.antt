@@ -4,8 +4,8 @@ use Rattle.orders.specs.Meaning.{fallen}
 use Rattle.orders.specs.FlatTables.{lower_can, lower_front, lower_back}
 use Rattle.orders.proofs.flat.lower.Goals as goal
 
-pub overflow-sub-e : goal.overflow-sub-e
-overflow-sub-e c =
+pub overflow_sub-e : goal.overflow_sub-e
+overflow_sub-e c =
     let i = c.loop-e.e-index in
     let h : i < length c.loop-e.entries = omega arith in
     lower_can c.args.by i c.args.entries.now c.loop-e.entries c.loop-e-test.true h c.loop-e.invariant.1 c.requires

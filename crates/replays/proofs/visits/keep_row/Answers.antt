@@ -15,6 +15,6 @@ returns-in-err-kept g c =
 pub returns : goal.returns
 returns g c = record {
   good = c.keep.ensures.good;
-  goes = λ m before h. answer_at m c.args.slab.now before c.args.row _ _ _ _ (ap Ok c.outcome-of.ensures)
+  goes = λ m before h. answer_at m c.args.slab.now before c.args.row _ _ _ _ (ap Ok c.outcome_of.ensures)
       (keep_goes m c.args.slab.now before c.args.row _ _ h c.in-ok-kept.kept _ c.requires.cost c.in-ok-kept.ensures.step);
 }

@@ -12,15 +12,15 @@ returns-in-err-found g c =
           (get_fails m c.args.slab.now before c.args.row _ _ c.in-err-found.field-0.0 h c.in-err-found.ensures.step, refl);
     }
 
-pub returns-then-is-some : goal.returns-then-is-some
-returns-then-is-some g c = record {
+pub returns-then-is_some : goal.returns-then-is_some
+returns-then-is_some g c = record {
   good = c.get.ensures.good;
-  goes = λ m before h. (found_goes m c.args.slab.now before c.args.row _ _ c.args.slab c.in-ok-found.found (sym c.is-some.ensures ∙ c.if-is-some.true) h c.in-ok-found.ensures.step, refl);
+  goes = λ m before h. (found_goes m c.args.slab.now before c.args.row _ _ c.args.slab c.in-ok-found.found (sym c.is_some.ensures ∙ c.if-is_some.true) h c.in-ok-found.ensures.step, refl);
 }
 
 pub returns : goal.returns
 returns g c = record {
-  good = c.keep-row.ensures.good;
-  goes = λ m before h. c.keep-row.ensures.goes m before
-      (missed_goes m c.args.slab.now before c.args.row _ _ c.args.slab c.in-ok-found.found (sym c.is-some.ensures ∙ c.if-is-some.false) h c.in-ok-found.ensures.step);
+  good = c.keep_row.ensures.good;
+  goes = λ m before h. c.keep_row.ensures.goes m before
+      (missed_goes m c.args.slab.now before c.args.row _ _ c.args.slab c.in-ok-found.found (sym c.is_some.ensures ∙ c.if-is_some.false) h c.in-ok-found.ensures.step);
 }

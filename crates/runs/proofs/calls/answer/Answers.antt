@@ -22,7 +22,7 @@ returns-in-Get g c = record {
 pub returns-in-Keep : goal.returns-in-Keep
 returns-in-Keep g c = record {
   good = c.keep.ensures.good;
-  does = does_as g.K.Key.sameness _ _ _ _ _ _ _ c.in-Keep.is (does_keep g.K.Key.sameness _ _ (vec_items c.args.leases.now) _ _ _ _ _ _ _ c.as-slice.ensures.value c.keep.ensures.step);
+  does = does_as g.K.Key.sameness _ _ _ _ _ _ _ c.in-Keep.is (does_keep g.K.Key.sameness _ _ (vec_items c.args.leases.now) _ _ _ _ _ _ _ c.as_slice.ensures.value c.keep.ensures.step);
   capacity = refl;
   most = omega arith;
 }

@@ -11,7 +11,7 @@ pub returns-in-Ok : goal.returns-in-Ok
 returns-in-Ok g c =
     let e : vec_len c.args.leases.now ≡ length (vec_items c.args.leases.now) = c.args.leases.now.ok.0 in
     record {
-      good = c.give-back.ensures.good;
+      good = c.give_back.ensures.good;
       does = λ slab. does_give g.K.Key.sameness _ _ _ _ slab c.args.place _ (Ok tt) _ (omega (arith, e, c.len.ensures, c.if-place-len.false)) c.remove-lease.ensures.value c.in-Ok.ensures.step c.ticket-ticket.ensures (c.remove-lease.ensures.items ∙ sym (append-nil _));
       capacity = c.remove-lease.ensures.capacity;
       most = omega (arith, c.remove-lease.ensures.len);
@@ -21,8 +21,8 @@ pub returns-in-Err : goal.returns-in-Err
 returns-in-Err g c =
     let e : vec_len c.args.leases.now ≡ length (vec_items c.args.leases.now) = c.args.leases.now.ok.0 in
     record {
-      good = c.give-back.ensures.good;
-      does = λ slab. does_give g.K.Key.sameness _ _ _ _ slab c.args.place _ (Err _) _ (omega (arith, e, c.len.ensures, c.if-place-len.false)) c.remove-lease.ensures.value c.in-Err.ensures.step c.ticket-ticket.ensures (pushed_back _ _ _ _ _ c.push-reserved.ensures.items c.remove-lease.ensures.items c.in-Err.ensures.token);
-      capacity = c.push-reserved.ensures.capacity ∙ c.remove-lease.ensures.capacity;
-      most = omega (arith, c.remove-lease.ensures.len, c.push-reserved.ensures.len);
+      good = c.give_back.ensures.good;
+      does = λ slab. does_give g.K.Key.sameness _ _ _ _ slab c.args.place _ (Err _) _ (omega (arith, e, c.len.ensures, c.if-place-len.false)) c.remove-lease.ensures.value c.in-Err.ensures.step c.ticket-ticket.ensures (pushed_back _ _ _ _ _ c.push_reserved.ensures.items c.remove-lease.ensures.items c.in-Err.ensures.token);
+      capacity = c.push_reserved.ensures.capacity ∙ c.remove-lease.ensures.capacity;
+      most = omega (arith, c.remove-lease.ensures.len, c.push_reserved.ensures.len);
     }

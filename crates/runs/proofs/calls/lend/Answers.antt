@@ -5,9 +5,9 @@ use Rattle.runs.proofs.calls.lend.Goals as goal
 pub returns-in-Ok : goal.returns-in-Ok
 returns-in-Ok g c = record {
   good = c.lease.ensures.good;
-  does = λ slab. does_lease g.K.Key.sameness _ _ _ _ slab c.args.key _ _ c.in-Ok.ensures.step c.ticket-ticket.ensures c.push-reserved.ensures.items;
-  capacity = c.push-reserved.ensures.capacity;
-  most = omega (arith, c.push-reserved.ensures.len);
+  does = λ slab. does_lease g.K.Key.sameness _ _ _ _ slab c.args.key _ _ c.in-Ok.ensures.step c.ticket-ticket.ensures c.push_reserved.ensures.items;
+  capacity = c.push_reserved.ensures.capacity;
+  most = omega (arith, c.push_reserved.ensures.len);
 }
 
 pub returns-in-Err : goal.returns-in-Err

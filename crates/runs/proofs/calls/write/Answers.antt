@@ -8,5 +8,5 @@ returns-then-place-leases g c = record { good = c.requires; does = idle_write g.
 pub returns : goal.returns
 returns g c = record {
   good = c.write-answer.ensures.good;
-  does = does_write g.K.Key.sameness _ _ _ _ _ _ c.args.value.now c.args.place _ _ _ c.as-slice.ensures.value (omega (arith, c.if-place-leases.false)) c.write-answer.ensures.step c.ticket.ensures;
+  does = does_write g.K.Key.sameness _ _ _ _ _ _ c.args.value.now c.args.place _ _ _ c.as_slice.ensures.value (omega (arith, c.if-place-leases.false)) c.write-answer.ensures.step c.ticket.ensures;
 }

@@ -6,11 +6,11 @@ use Rattle.runs.proofs.serving.serve.Goals as goal
 pub loop-ask-preserved : goal.loop-ask-preserved
 loop-ask-preserved g c = (
   c.answer-happening.ensures.good,
-  serve_more g.K.Key.sameness (vec_items c.args.happenings.now) (vec_items c.loop-ask.happenings) (vec_items c.push-reserved.new.self) _ _ _ (hand (vec_items c.args.leases.now) c.args.slab.now) (hand (vec_items c.loop-ask.leases) c.loop-ask.slab) (hand (vec_items c.answer-happening.new.leases) c.answer-happening.new.slab) c.args.asks.now c.loop-ask.ask-index c.ask-item.result c.answer-happening.result (omega arith) c.ask-item.is c.push-reserved.ensures.items c.loop-ask.invariant.1 c.answer-happening.ensures.does,
+  serve_more g.K.Key.sameness (vec_items c.args.happenings.now) (vec_items c.loop-ask.happenings) (vec_items c.push_reserved.new.self) _ _ _ (hand (vec_items c.args.leases.now) c.args.slab.now) (hand (vec_items c.loop-ask.leases) c.loop-ask.slab) (hand (vec_items c.answer-happening.new.leases) c.answer-happening.new.slab) c.args.asks.now c.loop-ask.ask-index c.ask-item.result c.answer-happening.result (omega arith) c.ask-item.is c.push_reserved.ensures.items c.loop-ask.invariant.1 c.answer-happening.ensures.does,
   omega (arith, c.loop-ask.invariant.2, c.answer-happening.ensures.most),
   c.answer-happening.ensures.capacity ∙ c.loop-ask.invariant.3,
-  omega (arith, c.loop-ask.invariant.4, c.push-reserved.ensures.len),
-  c.push-reserved.ensures.capacity ∙ c.loop-ask.invariant.5,
+  omega (arith, c.loop-ask.invariant.4, c.push_reserved.ensures.len),
+  c.push_reserved.ensures.capacity ∙ c.loop-ask.invariant.5,
 )
 
 pub returns : goal.returns

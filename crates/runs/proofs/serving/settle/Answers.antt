@@ -6,10 +6,10 @@ use Rattle.runs.proofs.serving.settle.Goals as goal
 
 pub loop-tried-preserved : goal.loop-tried-preserved
 loop-tried-preserved g c = (
-  c.give-back-happening.ensures.good,
-  (λ bytes. again_more g.K.Key.sameness (vec_items c.args.happenings.now) (vec_items c.loop-tried.happenings) (vec_items c.push-reserved.new.self) _ _ _ (hand (vec_items c.args.leases.now) bytes) (hand (vec_items c.loop-tried.leases) bytes) (hand (vec_items c.give-back-happening.new.leases) bytes) c.loop-tried.tried (AskGive 0) c.give-back-happening.result c.push-reserved.ensures.items (c.loop-tried.invariant.1 bytes) (c.give-back-happening.ensures.does bytes)),
-  omega (arith, c.loop-tried.invariant.2, c.push-reserved.ensures.len),
-  c.push-reserved.ensures.capacity ∙ c.loop-tried.invariant.3,
+  c.give_back-happening.ensures.good,
+  (λ bytes. again_more g.K.Key.sameness (vec_items c.args.happenings.now) (vec_items c.loop-tried.happenings) (vec_items c.push_reserved.new.self) _ _ _ (hand (vec_items c.args.leases.now) bytes) (hand (vec_items c.loop-tried.leases) bytes) (hand (vec_items c.give_back-happening.new.leases) bytes) c.loop-tried.tried (AskGive 0) c.give_back-happening.result c.push_reserved.ensures.items (c.loop-tried.invariant.1 bytes) (c.give_back-happening.ensures.does bytes)),
+  omega (arith, c.loop-tried.invariant.2, c.push_reserved.ensures.len),
+  c.push_reserved.ensures.capacity ∙ c.loop-tried.invariant.3,
 )
 
 pub returns : goal.returns

@@ -14,6 +14,6 @@ returns c =
     let i = c.position-end.result in
     simp (sub-zero, take_rest) (
       first_whole s i c.position-end.ensures.is (omega (arith, c.position-end.ensures.within, c.if-end-rest.false)),
-      omega (arith, length-take-le i s c.position-end.ensures.within, c.if-end-gt-LINE-BYTES.false),
+      omega (arith, length-take-le i s c.position-end.ensures.within, c.if-end-gt-LINE_BYTES.false),
       simp length-drop (omega (arith, c.position-end.ensures.within, c.if-end-rest.false)),
     )

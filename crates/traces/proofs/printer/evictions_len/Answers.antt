@@ -11,8 +11,8 @@ loop-eviction-init c = (refl, omega arith)
 pub loop-eviction-preserved : goal.loop-eviction-preserved
 unfolding eviction_text
 loop-eviction-preserved c = (
-  omega (arith, c.loop-eviction.invariant.0, length_joined_step eviction_text c.args.evicted.now c.loop-eviction.eviction-index no_eviction c.loop-eviction-test.true, c.line-len-total.ensures.is),
-  omega (arith, c.loop-eviction.invariant.1, c.line-len-total.ensures.short),
+  omega (arith, c.loop-eviction.invariant.0, length_joined_step eviction_text c.args.evicted.now c.loop-eviction.eviction-index no_eviction c.loop-eviction-test.true, c.line_len-total.ensures.is),
+  omega (arith, c.loop-eviction.invariant.1, c.line_len-total.ensures.short),
 )
 
 pub returns : goal.returns

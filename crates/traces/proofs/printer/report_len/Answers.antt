@@ -6,4 +6,4 @@ pub returns : goal.returns
 returns c =
     let is = report_is c.args.report.now _ _ _ c.slots-slots.ensures.value c.counts-counts.ensures.value c.evicted-evicted.ensures.value in
     let long = length_run c.slots-slots.result c.counts-counts.result c.evicted-evicted.result.now in
-    omega (arith, ap length is, long, c.head-len.ensures.is, c.evictions-len.ensures.is)
+    omega (arith, ap length is, long, c.head_len.ensures.is, c.evictions_len.ensures.is)

@@ -11,11 +11,11 @@ returns-in-err-rows c =
     let p = err_from_is_err_and c.from-residual-in-err-rows.result c.from-residual-in-err-rows.ensures.1 in
     rw (p.1, p.2) (read_fails c.args.text.now _ _ _ c.in-ok-header.ensures _ c.in-ok-check.ensures c.in-err-rows.ensures)
 
-pub from-parts-requires : goal.from-parts-requires
-from-parts-requires c = said_fits c.args.text.now _ _ (whole_rows c.args.text.now _ _ _ c.in-ok-header.ensures _ c.in-ok-rows.ensures)
+pub from_parts-requires : goal.from_parts-requires
+from_parts-requires c = said_fits c.args.text.now _ _ (whole_rows c.args.text.now _ _ _ c.in-ok-header.ensures _ c.in-ok-rows.ensures)
 
 pub returns : goal.returns
 returns c =
     let says = whole_rows c.args.text.now _ _ _ c.in-ok-header.ensures _ c.in-ok-rows.ensures in
-    subst (λ s. Says c.args.text.now s (rows_in c.from-parts.result)) (sym (ap (λ h. h.slots) c.from-parts.ensures.0))
-    (subst (λ rs. Says c.args.text.now c.in-ok-header.header.slots rs) (sym c.from-parts.ensures.1) says)
+    subst (λ s. Says c.args.text.now s (rows_in c.from_parts.result)) (sym (ap (λ h. h.slots) c.from_parts.ensures.0))
+    (subst (λ rs. Says c.args.text.now c.in-ok-header.header.slots rs) (sym c.from_parts.ensures.1) says)

@@ -10,12 +10,12 @@ returns-in-err-text c =
     let told = c.in-err-text.ensures in
     rw (p.1, p.2) (λ o. least_line o 2 _ _ told.0 told.1 (inl (omega arith)))
 
-pub returns-then-not-is-one : goal.returns-then-not-is-one
-returns-then-not-is-one c =
+pub returns-then-not-is_one : goal.returns-then-not-is_one
+returns-then-not-is_one c =
     let read = c.in-ok-text.ensures in
-    λ o. least_at o 2 _ _ _ _ read.0 (least_one o _ read.1 (λ e. both_ways _ c.if-not-is-one.true (c.is-one.ensures.no e)))
+    λ o. least_at o 2 _ _ _ _ read.0 (least_one o _ read.1 (λ e. both_ways _ c.if-not-is_one.true (c.is_one.ensures.no e)))
 
 pub returns-in-default : goal.returns-in-default
 returns-in-default c =
     let read = c.in-ok-text.ensures in
-    λ o. least_at o 2 _ _ _ _ read.0 (least_slots o _ read.1 (c.is-one.ensures.yes c.if-not-is-one.false) c.in-default.ensures.told)
+    λ o. least_at o 2 _ _ _ _ read.0 (least_slots o _ read.1 (c.is_one.ensures.yes c.if-not-is_one.false) c.in-default.ensures.told)

@@ -10,7 +10,7 @@ returns-in-err-names c =
     let told = c.in-err-names.ensures in
     rw (p.1, p.2) (λ o. least_line o 1 _ _ told.0 told.1 (inl (omega arith)))
 
-pub returns-then-not-is-title : goal.returns-then-not-is-title
-returns-then-not-is-title c =
+pub returns-then-not-is_title : goal.returns-then-not-is_title
+returns-then-not-is_title c =
     let read = c.in-ok-names.ensures in
-    λ o. least_at o 1 _ _ _ _ read.0 (least_title o _ read.1 (λ e. both_ways _ c.if-not-is-title.true (c.is-title.ensures.no e)))
+    λ o. least_at o 1 _ _ _ _ read.0 (least_title o _ read.1 (λ e. both_ways _ c.if-not-is_title.true (c.is_title.ensures.no e)))

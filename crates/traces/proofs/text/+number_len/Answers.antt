@@ -4,8 +4,8 @@ use Rattle.traces.specs.Tables.{numeral_of}
 use Rattle.traces.proofs.Writing.{numeral_small, length_numeral_step, numeral_len, div_less}
 use Rattle.traces.proofs.text.+number_len.Goals as goal
 
-pub number-len-requires : goal.number-len-requires
-number-len-requires t c = (omega (arith, div_less c.args.base c.args.n c.requires c.if-n-base.false, c.decreases), c.requires)
+pub number_len-requires : goal.number_len-requires
+number_len-requires t c = (omega (arith, div_less c.args.base c.args.n c.requires c.if-n-base.false, c.decreases), c.requires)
 
 pub returns-then-n-base : goal.returns-then-n-base
 returns-then-n-base t c = record { is = sym (ap length (numeral_small c.args.base c.args.n c.requires c.if-n-base.true)); short = omega arith }
@@ -14,4 +14,4 @@ pub returns-else-n-base : goal.returns-else-n-base
 returns-else-n-base t c =
     let step = length_numeral_step c.args.base c.args.n c.requires c.if-n-base.false in
     let short : length (numeral_of c.args.base c.args.n) ≤ 64 = numeral_len c.args.base 64 c.args.n c.requires (omega arith) (omega (arith, pow-le-pow_left {n = 2} {m = c.args.base} c.requires 64)) in
-    record { is = omega (arith, step, c.number-len.ensures.is); short = omega (arith, step, short, c.number-len.ensures.is) }
+    record { is = omega (arith, step, c.number_len.ensures.is); short = omega (arith, step, short, c.number_len.ensures.is) }

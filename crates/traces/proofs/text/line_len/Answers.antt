@@ -5,6 +5,6 @@ use Rattle.traces.proofs.text.line_len.Goals as goal
 pub returns : goal.returns
 returns c =
     record {
-      is = omega (arith, length_line c.args.first c.args.rest.now, c.cell-len.ensures.is, c.spaced-len.ensures.is);
-      short = omega (arith, c.cell-len.ensures.short, c.spaced-len.ensures.short);
+      is = omega (arith, length_line c.args.first c.args.rest.now, c.cell_len.ensures.is, c.spaced_len.ensures.is);
+      short = omega (arith, c.cell_len.ensures.short, c.spaced_len.ensures.short);
     }

@@ -10,8 +10,8 @@ loop-cell-init c = (refl, omega arith)
 
 pub loop-cell-preserved : goal.loop-cell-preserved
 loop-cell-preserved c = (
-  omega (arith, c.loop-cell.invariant.0, c.cell-len.ensures.is, length_joined_step spaced c.args.cells.now c.loop-cell.cell-index (Decimal 0) c.loop-cell-test.true),
-  omega (arith, c.loop-cell.invariant.1, c.cell-len.ensures.short),
+  omega (arith, c.loop-cell.invariant.0, c.cell_len.ensures.is, length_joined_step spaced c.args.cells.now c.loop-cell.cell-index (Decimal 0) c.loop-cell-test.true),
+  omega (arith, c.loop-cell.invariant.1, c.cell_len.ensures.short),
 )
 
 pub returns : goal.returns

@@ -22,11 +22,11 @@ fits c =
     more_fits c.args.radix c.loop-b.n c.in-ok-d.d c.loop-b.b-index c.args.text.now c.loop-b.invariant.0 c.loop-b.invariant.1
     c.loop-b-test.true (this c) c.in-ok-d.ensures.told.1 c.requires.base c.requires.short
 
-pub overflow-mul-n : goal.overflow-mul-n
-overflow-mul-n c = omega (arith, fits c)
+pub overflow_mul-n : goal.overflow_mul-n
+overflow_mul-n c = omega (arith, fits c)
 
-pub overflow-add-n : goal.overflow-add-n
-overflow-add-n c = omega (arith, fits c)
+pub overflow_add-n : goal.overflow_add-n
+overflow_add-n c = omega (arith, fits c)
 
 pub loop-b-preserved : goal.loop-b-preserved
 loop-b-preserved c =

@@ -4,8 +4,8 @@ use Rattle.traces.specs.Forms.{Fits, radix_of}
 use Rattle.traces.proofs.Laid.{fits_reading, unfit_reading}
 use Rattle.traces.proofs.values.value_in.Goals as goal
 
-pub returns-then-is-empty : goal.returns-then-is-empty
-returns-then-is-empty c =
+pub returns-then-is_empty : goal.returns-then-is_empty
+returns-then-is_empty c =
     let not : Fits c.args.column c.args.text.now → ⊥ = search rules in
     record { is = sym (unfit_reading _ _ not); told = not }
 

@@ -6,13 +6,13 @@ use Rattle.traces.proofs.Writing.{length_head, length_joined_step, length_trace}
 use Rattle.traces.proofs.writer.needed.Goals as goal
 
 pub loop-row-init : goal.loop-row-init
-loop-row-init c = (omega (arith, length_head c.args.slots, c.line-len-total.ensures.is), omega (arith, c.line-len-total.ensures.short))
+loop-row-init c = (omega (arith, length_head c.args.slots, c.line_len-total.ensures.is), omega (arith, c.line_len-total.ensures.short))
 
 pub loop-row-preserved : goal.loop-row-preserved
 unfolding row_text
 loop-row-preserved c = (
-  omega (arith, c.loop-row.invariant.0, length_joined_step row_text c.args.rows.now c.loop-row.row-index (row_of 0 0) c.loop-row-test.true, c.line-len-total-in-loop-row.ensures.is),
-  omega (arith, c.loop-row.invariant.1, c.line-len-total-in-loop-row.ensures.short),
+  omega (arith, c.loop-row.invariant.0, length_joined_step row_text c.args.rows.now c.loop-row.row-index (row_of 0 0) c.loop-row-test.true, c.line_len-total-in-loop-row.ensures.is),
+  omega (arith, c.loop-row.invariant.1, c.line_len-total-in-loop-row.ensures.short),
 )
 
 pub returns : goal.returns

@@ -9,8 +9,8 @@ use Rattle.traces.proofs.writer.put_rows.Goals as goal
 pub loop-row-init : goal.loop-row-init
 loop-row-init c = (omega arith, sym (placed_none c.args.start c.args.out.now))
 
-pub put-row-at-requires : goal.put-row-at-requires
-put-row-at-requires c =
+pub put_row-at-requires : goal.put_row-at-requires
+put_row-at-requires c =
     omega (arith, c.requires, c.loop-row.invariant.0, length_joined_step row_text c.args.rows.now c.loop-row.row-index (row_of 0 0) c.loop-row-test.true, joined_front row_text (c.loop-row.row-index + 1) c.args.rows.now)
 
 pub loop-row-preserved : goal.loop-row-preserved
@@ -18,8 +18,8 @@ loop-row-preserved c =
     let i = c.loop-row.row-index in
     let rows = c.args.rows.now in
     let more = length_joined_step row_text rows i (row_of 0 0) c.loop-row-test.true in (
-      omega (arith, c.loop-row.invariant.0, more, c.put-row-at.ensures.after),
-      put_more c.args.start _ (rows_text (take i rows)) (row_text (get_or rows i (row_of 0 0))) c.args.out.now _ _ c.loop-row.invariant.0 c.loop-row.invariant.1 c.put-row-at.ensures.wrote
+      omega (arith, c.loop-row.invariant.0, more, c.put_row-at.ensures.after),
+      put_more c.args.start _ (rows_text (take i rows)) (row_text (get_or rows i (row_of 0 0))) c.args.out.now _ _ c.loop-row.invariant.0 c.loop-row.invariant.1 c.put_row-at.ensures.wrote
           (omega (arith, c.requires, more, joined_front row_text (i + 1) rows))
           ∙ ap (λ t. placed c.args.start t c.args.out.now) (sym (joined_step row_text rows i (row_of 0 0) c.loop-row-test.true)),
     )

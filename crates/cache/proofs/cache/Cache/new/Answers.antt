@@ -9,7 +9,7 @@ use Rattle.cache.proofs.cache.Cache.new.Goals as goal
 pub returns : goal.returns
 returns g c =
     let e = new_made (g.D.Directory.meaning c.args.directory) _ (g.O.Order.meaning c.args.order) _ c.args.mark c.args.chunk _ _ _ _ _
-    c.empty.ensures.after c.size.ensures c.min.ensures c.empty-2.ensures.means c.min-2.ensures c.max.ensures c.blank-records-records.ensures in
+    c.empty.ensures.after c.size.ensures c.min.ensures c.empty-2.ensures.means c.min-2.ensures c.max.ensures c.blank_records-records.ensures in
     record {
       good = record { directory = c.empty-2.ensures.kept; order = c.empty.ensures.still; sound = subst (λ x. Sound g.K.Key.sameness x) (sym e) (sound_made g.K.Key.sameness (making g.D.Directory g.O.Order c.args.directory c.args.order c.args.mark c.args.chunk)) };
       made = e;

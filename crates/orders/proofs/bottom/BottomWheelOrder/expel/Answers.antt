@@ -16,8 +16,8 @@ remove-requires c =
     let l = head_below w.queues q (at w.queues.next (1024 + q)) (drop 1 (queue w.queues.next q)) (omega arith) c.in-Some.ensures.1 in
     omega arith
 
-pub overflow-cast-result : goal.overflow-cast-result
-overflow-cast-result c =
+pub overflow_cast-result : goal.overflow_cast-result
+overflow_cast-result c =
     let w = c.args.self.now in
     let q = (w.hand + c.in-Some.far) % 256 in
     let e = c.front-slot.ensures in

@@ -28,7 +28,7 @@ returns c =
     let k = c.args.credit in
     let l : s < 1024 = c.if-slot-ge-SLOTS.false in
     let z = c.if-credit-eq0.false in
-    let h = c.if-credit-gt-BOTTOM-SPAN.false in
+    let h = c.if-credit-gt-BOTTOM_SPAN.false in
     let out : waits s m.waiting ≡ false = bottom_waits w.queues w.hand c.requires s l ∙ sym c.if-holds.ensures in
     let yes : takes m s k ≡ true = takes_yes m s k l out (omega arith) h in
     record {

@@ -8,7 +8,7 @@ use Rattle.orders.proofs.flat.FlatOrderOrder.place.Goals as goal
 pub bounds-self-count : goal.bounds-self-count
 bounds-self-count c =
     let o = c.args.self.now in
-    let fit = permitted_yes c.args.slot c.args.credit (sym c.if-not-within-limits.ensures) in
+    let fit = permitted_yes c.args.slot c.args.credit (sym c.if-not-within_limits.ensures) in
     place_room o.table o.count c.requires c.args.slot c.args.credit fit.0 c.in-None.ensures
 
 pub returns-in-Some : goal.returns-in-Some
@@ -27,7 +27,7 @@ returns-in-None c =
     let s = c.args.slot in
     let k = c.args.credit in
     let m : OrderMeaning = flat_order o.table o.count in
-    let fit = permitted_yes s k (sym c.if-not-within-limits.ensures) in
+    let fit = permitted_yes s k (sym c.if-not-within_limits.ensures) in
     let free = c.in-None.ensures in
     let in' : takes m s k ≡ true = takes_yes m s k fit.0 (flat_waits o.table o.count c.requires s ∙ free) fit.1 fit.2 in
     record {

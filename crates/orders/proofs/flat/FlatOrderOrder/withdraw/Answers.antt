@@ -22,10 +22,10 @@ returns-in-Some c =
     let told = c.in-Some.ensures in
     let n = listed_long o.table o.count c.requires in
     let h : i < o.count = omega (arith, told.0) in
-    let t = c.close-gap.new.table in
-    let same : length t ≡ length o.table = c.close-gap.auto.table in
+    let t = c.close_gap.new.table in
+    let same : length t ≡ length o.table = c.close_gap.auto.table in
     record {
-      still = gone_kept o.table o.count c.requires i t h same c.close-gap.ensures;
+      still = gone_kept o.table o.count c.requires i t h same c.close_gap.ensures;
       answer = sym (flat_waits_here o.table o.count c.requires s i told.0 told.1);
-      after = ap (holding m) (gone_waiting o.table o.count c.requires i t h same c.close-gap.ensures s told.1);
+      after = ap (holding m) (gone_waiting o.table o.count c.requires i t h same c.close_gap.ensures s told.1);
     }

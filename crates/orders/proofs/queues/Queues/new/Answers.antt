@@ -16,8 +16,8 @@ loop-i-preserved c =
           (get_or-set_same t i i 0 (omega arith)),
     )
 
-pub invariant-of-result : goal.invariant-of-result
-invariant-of-result c =
+pub invariant_of-result : goal.invariant_of-result
+invariant_of-result c =
     let t = c.loop-i.next in
     let all : (k : ℕ) → k < 1280 → at t k ≡ k = λ k h. c.loop-i.invariant.1 k (omega arith) in (
       ∣ as_walked (rings_none t (replicate 1024 256) c.loop-i.invariant.0 all (length-replicate {A = ℕ} 1024 256) (λ x h. get_or-replicate {A = ℕ} 1024 x 256 0 h)) ∣₁,

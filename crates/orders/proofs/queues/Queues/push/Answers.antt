@@ -12,8 +12,8 @@ use Rattle.orders.proofs.queues.Queues.push.Goals as goal
 pub bounds-self-last : goal.bounds-self-last
 bounds-self-last c = let pre = c.requires in ∥∥₁_elim c.args.self.now.rings le_prop (λ r. r.prev_in (1024 + c.args.q) (omega arith))
 
-pub invariant-of-self : goal.invariant-of-self
-invariant-of-self c =
+pub invariant_of-self : goal.invariant_of-self
+invariant_of-self c =
     let v = c.args.self.now in
     let q = c.args.q in (
       ∥∥₁_elim v.rings ∥∥₁_prop (λ r. ∣ as_walked (rings_push r q c.args.slot c.requires.0 c.requires.1.0 c.requires.1.1) ∣₁),

@@ -47,8 +47,8 @@ unmark-requires c =
     let q : at v.prev x - 1024 < 256 = omega arith in
     (q, ∥∥₁_elim v.rings (Bool-set _ _) (λ r. v.signs (at v.prev x - 1024) q ∙ sign_last r x c.requires c.if-before-after.true g))
 
-pub invariant-of-self : goal.invariant-of-self
-invariant-of-self c =
+pub invariant_of-self : goal.invariant_of-self
+invariant_of-self c =
     let v = c.args.self.now in
     let x = c.args.slot in (
       rings_after v x c.requires,
@@ -59,15 +59,15 @@ invariant-of-self c =
       ),
     )
 
-pub invariant-of-self-else-before-ge-PLACES : goal.invariant-of-self-else-before-ge-PLACES
-invariant-of-self-else-before-ge-PLACES c =
+pub invariant_of-self-else-before-ge-PLACES : goal.invariant_of-self-else-before-ge-PLACES
+invariant_of-self-else-before-ge-PLACES c =
     let v = c.args.self.now in
     let x = c.args.slot in
     let low = c.if-before-ge-PLACES.false in
     (rings_after v x c.requires, (signs_after v x c.requires (λ e g. omega arith), tt))
 
-pub invariant-of-self-else-before-after : goal.invariant-of-self-else-before-after
-invariant-of-self-else-before-after c =
+pub invariant_of-self-else-before-after : goal.invariant_of-self-else-before-after
+invariant_of-self-else-before-after c =
     let v = c.args.self.now in
     let x = c.args.slot in
     (rings_after v x c.requires, (signs_after v x c.requires (λ e g. c.if-before-after.false e), tt))

@@ -16,8 +16,8 @@ remove-requires g c =
     let l = head_below w.queues q (at w.queues.next (1024 + q)) (drop 1 (queue w.queues.next q)) told.1 told.2 in
     omega arith
 
-pub overflow-cast-result : goal.overflow-cast-result
-overflow-cast-result g c =
+pub overflow_cast-result : goal.overflow_cast-result
+overflow_cast-result g c =
     let w = c.args.self.now in
     let q = c.in-Some.q in
     let told = c.in-Some.ensures in

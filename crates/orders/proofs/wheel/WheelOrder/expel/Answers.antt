@@ -11,8 +11,8 @@ use Rattle.orders.specs.Turns.{row, ExpelledBelow}
 use Rattle.orders.proofs.Migrations.{bare_of, expelled_below}
 use Rattle.orders.proofs.wheel.WheelOrder.expel.Goals as goal
 
-pub overflow-cast-result-in-Some-pop-2 : goal.overflow-cast-result-in-Some-pop-2
-overflow-cast-result-in-Some-pop-2 g c =
+pub overflow_cast-result-in-Some-pop-2 : goal.overflow_cast-result-in-Some-pop-2
+overflow_cast-result-in-Some-pop-2 g c =
     let u = c.pop.new.self in
     let w = c.args.self.now in
     let W : OrderMeaning = wheel u.queues.next u.hand u.later (g.O.Order.meaning u.below) in

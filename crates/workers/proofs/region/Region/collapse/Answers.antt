@@ -5,5 +5,5 @@ use Rattle.workers.proofs.region.Region.collapse.Goals as goal
 
 pub returns : goal.returns
 returns c =
-    let e = sym c.if-not-has-edge.ensures in
+    let e = sym c.if-not-has_edge.ensures in
     (e, c.merged.ensures, ap (some (points_to c.args.remove)) c.merged.ensures ∙ collapsed_free c.args.keep c.args.remove (triangles_of c.args.self.now) (edge_apart c.args.keep c.args.remove (triangles_of c.args.self.now) e))

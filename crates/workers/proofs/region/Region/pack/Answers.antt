@@ -4,12 +4,12 @@ use Rattle.workers.specs.Meshes.{bytes_of}
 use Rattle.workers.proofs.Collapses.{few}
 use Rattle.workers.proofs.region.Region.pack.Goals as goal
 
-pub pack-into-requires : goal.pack-into-requires
-pack-into-requires c =
+pub pack_into-requires : goal.pack_into-requires
+pack_into-requires c =
     let e : length c.triangles.result.now ≤ 8 = subst (λ (ts : List Triangle). length ts ≤ 8) (sym c.triangles.ensures) (few c.args.self.now.count c.args.self.now.triangles c.args.self.now.few) in
     omega (arith, c.told-to)
 
 pub returns : goal.returns
 returns c =
     let e : length c.triangles.result.now ≤ 8 = subst (λ (ts : List Triangle). length ts ≤ 8) (sym c.triangles.ensures) (few c.args.self.now.count c.args.self.now.triangles c.args.self.now.few) in
-    record { most = omega (arith, c.pack-into.ensures.len); front = c.pack-into.ensures.front ∙ ap bytes_of c.triangles.ensures }
+    record { most = omega (arith, c.pack_into.ensures.len); front = c.pack_into.ensures.front ∙ ap bytes_of c.triangles.ensures }
