@@ -12,9 +12,9 @@ returns-in-Some g c =
     c.link-n.ensures c.set_link.ensures c.set_key.ensures in
     record { keys = done.keys; frees = done.frees; chained = done.chained; rest = done.rest }
 
-pub returns-in-default : goal.returns-in-default
-returns-in-default g c = record {
-  keys = unset (keys_of c.args.cells.now) c.args.s (sym c.in-default.ensures);
+pub returns-in_default : goal.returns-in_default
+returns-in_default g c = record {
+  keys = unset (keys_of c.args.cells.now) c.args.s (sym c.in_default.ensures);
   frees = refl;
   chained = c.requires.chained;
   rest = refl;

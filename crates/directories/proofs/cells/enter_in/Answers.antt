@@ -41,11 +41,11 @@ returns g c =
     let pos : 0 < c.args.free = omega (arith, c.if-free-eq0.false) in
     record {
       kept = enter_sound g.met.K.Key.laws c.requires
-          c.args.key c.free_at-s.result c.chain_in.new.cells pos c.free_at-s.ensures c.in-default.ensures
+          c.args.key c.free_at-s.result c.chain_in.new.cells pos c.free_at-s.ensures c.in_default.ensures
           c.chain_in.auto.cells c.chain_in.ensures.keys c.chain_in.ensures.frees c.chain_in.ensures.chained;
       took = pos;
       means = λ cap. enter_means g.met.K.Key.laws c.requires
-          c.args.key cap c.free_at-s.result c.chain_in.new.cells pos c.free_at-s.ensures c.in-default.ensures
+          c.args.key cap c.free_at-s.result c.chain_in.new.cells pos c.free_at-s.ensures c.in_default.ensures
           c.chain_in.ensures.keys;
       rest = c.chain_in.ensures.rest;
     }

@@ -10,7 +10,7 @@ returns-in-err-names c =
     let told = c.in-err-names.ensures in
     rw (p.1, p.2) (λ o. least_line o 3 _ _ told.0 told.1 (inl (omega arith)))
 
-pub returns-in-default : goal.returns-in-default
-returns-in-default c =
+pub returns-in_default : goal.returns-in_default
+returns-in_default c =
     let read = c.in-ok-names.ensures in
-    λ o. least_at o 3 _ _ _ _ read.0 (least_names o _ read.1 c.in-default.ensures)
+    λ o. least_at o 3 _ _ _ _ read.0 (least_names o _ read.1 c.in_default.ensures)

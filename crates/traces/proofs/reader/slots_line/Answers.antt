@@ -15,7 +15,7 @@ returns-then-not-is_one c =
     let read = c.in-ok-text.ensures in
     λ o. least_at o 2 _ _ _ _ read.0 (least_one o _ read.1 (λ e. both_ways _ c.if-not-is_one.true (c.is_one.ensures.no e)))
 
-pub returns-in-default : goal.returns-in-default
-returns-in-default c =
+pub returns-in_default : goal.returns-in_default
+returns-in_default c =
     let read = c.in-ok-text.ensures in
-    λ o. least_at o 2 _ _ _ _ read.0 (least_slots o _ read.1 (c.is_one.ensures.yes c.if-not-is_one.false) c.in-default.ensures.told)
+    λ o. least_at o 2 _ _ _ _ read.0 (least_slots o _ read.1 (c.is_one.ensures.yes c.if-not-is_one.false) c.in_default.ensures.told)

@@ -17,7 +17,7 @@ overflow_cast-result-in-Some-pop-2 g c =
     let w = c.args.self.now in
     let W : OrderMeaning = wheel u.queues.next u.hand u.later (g.O.Order.meaning u.below) in
     let W₀ : OrderMeaning = wheel w.queues.next w.hand w.later (g.O.Order.meaning w.below) in
-    let es : W ≡ W₀ = ap (λ z. wheel z.queues.next z.hand z.later (g.O.Order.meaning z.below)) c.in-default.ensures.cases.0 in
+    let es : W ≡ W₀ = ap (λ z. wheel z.queues.next z.hand z.later (g.O.Order.meaning z.below)) c.in_default.ensures.cases.0 in
     let mig = c.in-Some-migrate.ensures.cases in
     let d : ℕ = 256 * c.in-Some-migrate.turns - u.hand in
     let e : Expelled = c.in-Some-pop.entry in
@@ -33,15 +33,15 @@ returns-in-Some-pop g c =
     let w = c.args.self.now in
     let W : OrderMeaning = wheel u.queues.next u.hand u.later (g.O.Order.meaning u.below) in
     let W₀ : OrderMeaning = wheel w.queues.next w.hand w.later (g.O.Order.meaning w.below) in
-    let es : W ≡ W₀ = ap (λ z. wheel z.queues.next z.hand z.later (g.O.Order.meaning z.below)) c.in-default.ensures.cases.0 in
+    let es : W ≡ W₀ = ap (λ z. wheel z.queues.next z.hand z.later (g.O.Order.meaning z.below)) c.in_default.ensures.cases.0 in
     let mig = c.in-Some-migrate.ensures.cases in
     let d : ℕ = 256 * c.in-Some-migrate.turns - u.hand in
     let e : Expelled = c.in-Some-pop.entry in
     let got = c.in-Some-pop.ensures.cases in
     let f : Some e ≡ leaver (fallen d W.waiting) = got.answer ∙ ap (λ (n : OrderMeaning). leaver n.waiting) mig.falls.falls in
-    let bare : Bare (row g.row.O.Denot u) = subst (λ (z : Wheel g.row.O.Denot). Bare (row g.row.O.Denot z)) (sym c.in-default.ensures.cases.0)
-    (bare_of (queue w.queues.next) w.hand c.requires.1.linked.spent c.in-default.ensures.cases.1) in
-    let same : u ≡ w = c.in-default.ensures.cases.0 in
+    let bare : Bare (row g.row.O.Denot u) = subst (λ (z : Wheel g.row.O.Denot). Bare (row g.row.O.Denot z)) (sym c.in_default.ensures.cases.0)
+    (bare_of (queue w.queues.next) w.hand c.requires.1.linked.spent c.in_default.ensures.cases.1) in
+    let same : u ≡ w = c.in_default.ensures.cases.0 in
     record {
       still = (subst g.O.Order.valid (sym c.in-Some-pop.ensures.below) c.in-Some-migrate.ensures.still.0, got.sound);
       answer = falls_first d e W.waiting mig.falls.over f ∙ ap (λ (n : OrderMeaning). leaver n.waiting) es;
