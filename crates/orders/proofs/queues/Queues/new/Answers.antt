@@ -19,10 +19,11 @@ loop-i-preserved c =
 pub invariant_of-result : goal.invariant_of-result
 invariant_of-result c =
     let t = c.loop-i.next in
-    let all : (k : ℕ) → k < 1280 → at t k ≡ k = λ k h. c.loop-i.invariant.1 k (omega arith) in (
-      ∣ as_walked (rings_none t (replicate 1024 256) c.loop-i.invariant.0 all (length-replicate {A = ℕ} 1024 256) (λ x h. get_or-replicate {A = ℕ} 1024 x 256 0 h)) ∣₁,
-      ((λ k h. c.none-marks.ensures k (omega arith) h ∙ sym (sign_none t all k h)), tt),
-    )
+    let all : (k : ℕ) → k < 1280 → at t k ≡ k = λ k h. c.loop-i.invariant.1 k (omega arith) in
+    record {
+      rings = ∣ as_walked (rings_none t (replicate 1024 256) c.loop-i.invariant.0 all (length-replicate {A = ℕ} 1024 256) (λ x h. get_or-replicate {A = ℕ} 1024 x 256 0 h)) ∣₁;
+      signs = λ k h. c.none-marks.ensures k (omega arith) h ∙ sym (sign_none t all k h);
+    }
 
 pub returns : goal.returns
 returns c =

@@ -15,14 +15,12 @@ bounds-self-last c = let pre = c.requires in ∥∥₁_elim c.args.self.now.ring
 pub invariant_of-self : goal.invariant_of-self
 invariant_of-self c =
     let v = c.args.self.now in
-    let q = c.args.q in (
-      ∥∥₁_elim v.rings ∥∥₁_prop (λ r. ∣ as_walked (rings_push r q c.args.slot c.requires.0 c.requires.1.0 c.requires.1.1) ∣₁),
-      (
-        (λ k h. ∥∥₁_elim v.rings (Bool-set _ _)
-            (λ r. c.mark.ensures k h ∙ ap (λ (b : Bool). eqb k q || b) (v.signs k h) ∙ sym (sign_push r q c.args.slot c.requires.0 c.requires.1.0 k h))),
-        tt,
-      ),
-    )
+    let q = c.args.q in
+    record {
+      rings = ∥∥₁_elim v.rings ∥∥₁_prop (λ r. ∣ as_walked (rings_push r q c.args.slot c.requires.0 c.requires.1.0 c.requires.1.1) ∣₁);
+      signs = λ k h. ∥∥₁_elim v.rings (Bool-set _ _)
+            (λ r. c.mark.ensures k h ∙ ap (λ (b : Bool). eqb k q || b) (v.signs k h) ∙ sym (sign_push r q c.args.slot c.requires.0 c.requires.1.0 k h));
+    }
 
 pub returns : goal.returns
 unfolding pushed

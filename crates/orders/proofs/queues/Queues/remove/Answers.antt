@@ -50,27 +50,25 @@ unmark-requires c =
 pub invariant_of-self : goal.invariant_of-self
 invariant_of-self c =
     let v = c.args.self.now in
-    let x = c.args.slot in (
-      rings_after v x c.requires,
-      (
-        (λ k h. ∥∥₁_elim v.rings (Bool-set _ _) (λ r.
-            c.unmark.ensures k h ∙ ap (λ (b : Bool). not (eqb k (at v.prev x - 1024)) && b) (v.signs k h) ∙ sym (sign_gone r x c.requires c.if-before-after.true c.if-before-ge-PLACES.true k h))),
-        tt,
-      ),
-    )
+    let x = c.args.slot in
+    record {
+      rings = rings_after v x c.requires;
+      signs = λ k h. ∥∥₁_elim v.rings (Bool-set _ _) (λ r.
+            c.unmark.ensures k h ∙ ap (λ (b : Bool). not (eqb k (at v.prev x - 1024)) && b) (v.signs k h) ∙ sym (sign_gone r x c.requires c.if-before-after.true c.if-before-ge-PLACES.true k h));
+    }
 
 pub invariant_of-self-else-before-ge-PLACES : goal.invariant_of-self-else-before-ge-PLACES
 invariant_of-self-else-before-ge-PLACES c =
     let v = c.args.self.now in
     let x = c.args.slot in
     let low = c.if-before-ge-PLACES.false in
-    (rings_after v x c.requires, (signs_after v x c.requires (λ e g. omega arith), tt))
+    record { rings = rings_after v x c.requires; signs = signs_after v x c.requires (λ e g. omega arith) }
 
 pub invariant_of-self-else-before-after : goal.invariant_of-self-else-before-after
 invariant_of-self-else-before-after c =
     let v = c.args.self.now in
     let x = c.args.slot in
-    (rings_after v x c.requires, (signs_after v x c.requires (λ e g. c.if-before-after.false e), tt))
+    record { rings = rings_after v x c.requires; signs = signs_after v x c.requires (λ e g. c.if-before-after.false e) }
 
 pub returns-then-before-ge-PLACES : goal.returns-then-before-ge-PLACES
 returns-then-before-ge-PLACES c = record { queues = queues_after c.args.self.now c.args.slot c.requires; homes = refl }
