@@ -8,7 +8,7 @@ pub drain-requires : goal.drain-requires
 drain-requires g c =
     let m : OrderMeaning = g.O.Order.meaning c.args.order.now in
     let rows = c.args.rows.now in
-    let made = c.in-ok-gone.ensures in
+    let made = c.in_ok-gone.ensures in
     let most = all_placed_length (emptied m) rows in
     let all : length (g.O.Order.meaning c.place_all.new.order).waiting ≡ length (all_placed (emptied m) rows).waiting =
     ap (λ (k : OrderMeaning). length k.waiting) (c.place_all.ensures.after ∙ ap (λ (k : OrderMeaning). all_placed k rows) c.empty.ensures.after) in

@@ -4,26 +4,26 @@ use Rattle.forecasts.specs.Table.{capped_row, two_values}
 use Rattle.forecasts.proofs.Tables.{halves_none, halves_at, values_are}
 use Rattle.forecasts.proofs.table.values.Goals as goal
 
-pub returns-in-err-space : goal.returns-in-err-space
-returns-in-err-space c =
-    rw c.from-residual.ensures (sym (ap (λ h. option_map capped_row (two_values h)) (halves_none c.args.line.now c.in-err-space.ensures)))
+pub returns-in_err-space : goal.returns-in_err-space
+returns-in_err-space c =
+    rw c.from-residual.ensures (sym (ap (λ h. option_map capped_row (two_values h)) (halves_none c.args.line.now c.in_err-space.ensures)))
 
-pub returns-in-err-slot : goal.returns-in-err-slot
-returns-in-err-slot c =
-    let told = c.in-ok-space.ensures in
-    rw c.from-residual-in-err-slot.ensures
-    (values_are c.args.line.now c.in-ok-space.space (halves_at c.args.line.now c.in-ok-space.space told.0 told.1 told.2)
-    c.in-err-slot.ensures refl)
+pub returns-in_err-slot : goal.returns-in_err-slot
+returns-in_err-slot c =
+    let told = c.in_ok-space.ensures in
+    rw c.from-residual-in_err-slot.ensures
+    (values_are c.args.line.now c.in_ok-space.space (halves_at c.args.line.now c.in_ok-space.space told.0 told.1 told.2)
+    c.in_err-slot.ensures refl)
 
-pub returns-in-err-cost : goal.returns-in-err-cost
-returns-in-err-cost c =
-    let told = c.in-ok-space.ensures in
-    rw c.from-residual-in-err-cost.ensures
-    (values_are c.args.line.now c.in-ok-space.space (halves_at c.args.line.now c.in-ok-space.space told.0 told.1 told.2)
-    c.in-ok-slot.ensures c.in-err-cost.ensures)
+pub returns-in_err-cost : goal.returns-in_err-cost
+returns-in_err-cost c =
+    let told = c.in_ok-space.ensures in
+    rw c.from-residual-in_err-cost.ensures
+    (values_are c.args.line.now c.in_ok-space.space (halves_at c.args.line.now c.in_ok-space.space told.0 told.1 told.2)
+    c.in_ok-slot.ensures c.in_err-cost.ensures)
 
 pub returns : goal.returns
 returns c =
-    let told = c.in-ok-space.ensures in
-    values_are c.args.line.now c.in-ok-space.space (halves_at c.args.line.now c.in-ok-space.space told.0 told.1 told.2)
-    c.in-ok-slot.ensures c.in-ok-cost.ensures
+    let told = c.in_ok-space.ensures in
+    values_are c.args.line.now c.in_ok-space.space (halves_at c.args.line.now c.in_ok-space.space told.0 told.1 told.2)
+    c.in_ok-slot.ensures c.in_ok-cost.ensures

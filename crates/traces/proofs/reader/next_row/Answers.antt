@@ -4,13 +4,13 @@ use Rattle.traces.proofs.Cuts.{cut_some}
 use Rattle.traces.proofs.Faulty.{least_at, least_line}
 use Rattle.traces.proofs.reader.next_row.Goals as goal
 
-pub returns-in-err-body : goal.returns-in-err-body
-returns-in-err-body c =
+pub returns-in_err-body : goal.returns-in_err-body
+returns-in_err-body c =
     let p = err_from_is_err_and c.from-residual.result c.from-residual.ensures.1 in
-    let told = c.in-err-body.ensures in
+    let told = c.in_err-body.ensures in
     rw (p.1, p.2) (least_line c.args.order c.args.number _ _ told.0 told.1 (inr (cut_some _ c.requires.some)))
 
-pub returns-in-err-row : goal.returns-in-err-row
-returns-in-err-row c =
-    let p = err_from_is_err_and c.from-residual-in-err-row.result c.from-residual-in-err-row.ensures.1 in
-    rw (p.1, p.2) (least_at c.args.order c.args.number _ _ _ _ c.in-ok-body.ensures.0 c.in-err-row.ensures)
+pub returns-in_err-row : goal.returns-in_err-row
+returns-in_err-row c =
+    let p = err_from_is_err_and c.from-residual-in_err-row.result c.from-residual-in_err-row.ensures.1 in
+    rw (p.1, p.2) (least_at c.args.order c.args.number _ _ _ _ c.in_ok-body.ensures.0 c.in_err-row.ensures)

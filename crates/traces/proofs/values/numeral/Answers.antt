@@ -5,22 +5,22 @@ use Rattle.traces.specs.Forms.{Digit}
 use Rattle.traces.proofs.Numbers.{wider, more_digits, more_value, more_fits}
 use Rattle.traces.proofs.values.numeral.Goals as goal
 
-pub returns-in-err-d : goal.returns-in-err-d
-returns-in-err-d c =
+pub returns-in_err-d : goal.returns-in_err-d
+returns-in_err-d c =
     rw c.from-residual.ensures
-    (λ all. c.in-err-d.ensures.told (wider _ _ c.requires.base (All-get_or (Digit c.args.radix) c.args.text.now c.loop-b.b-index 0 c.loop-b-test.true all)))
+    (λ all. c.in_err-d.ensures.told (wider _ _ c.requires.base (All-get_or (Digit c.args.radix) c.args.text.now c.loop-b.b-index 0 c.loop-b-test.true all)))
 
 pub returns-then-d-radix : goal.returns-then-d-radix
 returns-then-d-radix c =
-    λ all. omega (arith, (All-get_or (Digit c.args.radix) c.args.text.now c.loop-b.b-index 0 c.loop-b-test.true all).0, c.in-ok-d.ensures.told.1)
+    λ all. omega (arith, (All-get_or (Digit c.args.radix) c.args.text.now c.loop-b.b-index 0 c.loop-b-test.true all).0, c.in_ok-d.ensures.told.1)
 
 this : (c : goal.Else-d-radix) → Digit c.args.radix (get_or c.args.text.now c.loop-b.b-index 0)
-this c = (omega (arith, c.in-ok-d.ensures.told.1), c.in-ok-d.ensures.told.0.1)
+this c = (omega (arith, c.in_ok-d.ensures.told.1), c.in_ok-d.ensures.told.0.1)
 
-fits : (c : goal.Else-d-radix) → c.loop-b.n * c.args.radix + c.in-ok-d.d < 2 ^ 32
+fits : (c : goal.Else-d-radix) → c.loop-b.n * c.args.radix + c.in_ok-d.d < 2 ^ 32
 fits c =
-    more_fits c.args.radix c.loop-b.n c.in-ok-d.d c.loop-b.b-index c.args.text.now c.loop-b.invariant.0 c.loop-b.invariant.1
-    c.loop-b-test.true (this c) c.in-ok-d.ensures.told.1 c.requires.base c.requires.short
+    more_fits c.args.radix c.loop-b.n c.in_ok-d.d c.loop-b.b-index c.args.text.now c.loop-b.invariant.0 c.loop-b.invariant.1
+    c.loop-b-test.true (this c) c.in_ok-d.ensures.told.1 c.requires.base c.requires.short
 
 pub overflow_mul-n : goal.overflow_mul-n
 overflow_mul-n c = omega (arith, fits c)
@@ -30,10 +30,10 @@ overflow_add-n c = omega (arith, fits c)
 
 pub loop-b-preserved : goal.loop-b-preserved
 loop-b-preserved c =
-    let told = c.in-ok-d.ensures.told in
+    let told = c.in_ok-d.ensures.told in
     let here : Digit c.args.radix (get_or c.args.text.now c.loop-b.b-index 0) = (omega (arith, told.1), told.0.1) in (
-      more_digits c.args.radix c.loop-b.n c.in-ok-d.d c.loop-b.b-index c.args.text.now c.loop-b.invariant.0 c.loop-b.invariant.1 c.loop-b-test.true here told.1,
-      more_value c.args.radix c.loop-b.n c.in-ok-d.d c.loop-b.b-index c.args.text.now c.loop-b.invariant.0 c.loop-b.invariant.1 c.loop-b-test.true here told.1,
+      more_digits c.args.radix c.loop-b.n c.in_ok-d.d c.loop-b.b-index c.args.text.now c.loop-b.invariant.0 c.loop-b.invariant.1 c.loop-b-test.true here told.1,
+      more_value c.args.radix c.loop-b.n c.in_ok-d.d c.loop-b.b-index c.args.text.now c.loop-b.invariant.0 c.loop-b.invariant.1 c.loop-b-test.true here told.1,
     )
 
 pub returns : goal.returns

@@ -9,8 +9,8 @@ returns-then-is_empty c =
     let not : Fits c.args.column c.args.text.now → ⊥ = search rules in
     record { is = sym (unfit_reading _ _ not); told = not }
 
-pub returns-in-err-n : goal.returns-in-err-n
-returns-in-err-n c =
+pub returns-in_err-n : goal.returns-in_err-n
+returns-in_err-n c =
     let not : Fits c.args.column c.args.text.now → ⊥ = search rules in
     rw c.from-residual.ensures (record { is = sym (unfit_reading _ _ not); told = not })
 
@@ -22,5 +22,5 @@ returns-then-n-high c =
 pub returns-else-n-high : goal.returns-else-n-high
 returns-else-n-high c =
     let fits : Fits c.args.column c.args.text.now = search rules in
-    let is : c.in-ok-n.n ≡ digits_value (radix_of c.args.column) c.args.text.now = search rules in
+    let is : c.in_ok-n.n ≡ digits_value (radix_of c.args.column) c.args.text.now = search rules in
     record { is = ap Some is ∙ sym (fits_reading _ _ fits); told = (fits, is) }

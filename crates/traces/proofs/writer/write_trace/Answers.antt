@@ -4,10 +4,10 @@ use Rattle.traces.proofs.Writing.{length_trace, put_both}
 use Rattle.traces.proofs.Back.{back_again}
 use Rattle.traces.proofs.writer.write_trace.Goals as goal
 
-pub returns-in-err-check_fit : goal.returns-in-err-check_fit
-returns-in-err-check_fit c =
+pub returns-in_err-check_fit : goal.returns-in_err-check_fit
+returns-in_err-check_fit c =
     let p = err_from_is_err_and c.from-residual.result c.from-residual.ensures.1 in
-    rw (p.1, p.2) (inl c.in-err-check_fit.ensures, refl)
+    rw (p.1, p.2) (inl c.in_err-check_fit.ensures, refl)
 
 pub put_head-at-requires : goal.put_head-at-requires
 put_head-at-requires c = omega (arith, length_trace c.args.header.slots c.args.rows.now, c.needed.ensures, c.if-needed-out.false)
@@ -19,6 +19,6 @@ pub returns : goal.returns
 returns c =
     let slots = c.args.header.slots in
     let rows = c.args.rows.now in
-    back_again slots rows c.args.out.now _ _ c.in-ok-check_fit.ensures
+    back_again slots rows c.args.out.now _ _ c.in_ok-check_fit.ensures
     (omega (arith, length_trace slots rows, c.put_head-at.ensures.after, c.put_rows.ensures.after))
     (put_both slots _ rows c.args.out.now _ _ c.put_head-at.ensures.after c.put_head-at.ensures.wrote c.put_rows.ensures.wrote (omega (arith, c.needed.ensures, c.if-needed-out.false)))
