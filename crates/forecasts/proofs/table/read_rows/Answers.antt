@@ -10,7 +10,7 @@ pub returns-in_err-read_lines : goal.returns-in_err-read_lines
 returns-in_err-read_lines c =
     let text = c.args.text.now in
     let read = names_read text ((slice_eq-Decides Decides-eqb names (take 10 text) true c.if-not-starts_with.ensures.value).0 refl) in
-    let p = err_from_is_err_and c.from-residual-in_err-read_lines.result c.from-residual-in_err-read_lines.ensures.1 in
+    let p = err_from_is_err_and c.from_residual-in_err-read_lines.result c.from_residual-in_err-read_lines.ensures.1 in
     rw (p.1, p.2) (read ∙ c.in_err-read_lines.ensures)
 
 pub returns : goal.returns

@@ -5,12 +5,12 @@ use Rattle.replays.proofs.replaying.report_rows.Goals as goal
 
 pub returns-in_err-report : goal.returns-in_err-report
 returns-in_err-report g c =
-    let p = err_from_is_err_and c.from-residual.result c.from-residual.ensures.1 in
+    let p = err_from_is_err_and c.from_residual.result c.from_residual.ensures.1 in
     record { good = c.requires.good; replays = λ m e. no_memory m c.args.slab.now c.args.rows.now _ _ (p.1 ∙ ap Err p.2) e }
 
 pub returns-in_err-visit_all : goal.returns-in_err-visit_all
 returns-in_err-visit_all g c =
-    let p = err_from_is_err_and c.from-residual-in_err-visit_all.result c.from-residual-in_err-visit_all.ensures.1 in
+    let p = err_from_is_err_and c.from_residual-in_err-visit_all.result c.from_residual-in_err-visit_all.ensures.1 in
     record {
       good = c.visit_all.ensures.good;
       replays = λ m e. refuses m c.args.slab.now c.args.rows.now _ _ c.visit_all.new.report c.in_err-visit_all.field-0.0 _ (p.1 ∙ ap Err p.2) (c.in_err-visit_all.ensures.went m e);

@@ -5,7 +5,7 @@ use Rattle.replays.proofs.visits.keep_row.Goals as goal
 
 pub returns-in_err-kept : goal.returns-in_err-kept
 returns-in_err-kept g c =
-    let p = err_from_is_err_and c.from-residual.result c.from-residual.ensures.1 in
+    let p = err_from_is_err_and c.from_residual.result c.from_residual.ensures.1 in
     record {
       good = c.keep.ensures.good;
       goes = λ m before h. answer_at m c.args.slab.now before c.args.row _ _ _ _ (p.1 ∙ ap Err p.2)

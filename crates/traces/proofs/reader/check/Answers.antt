@@ -4,7 +4,7 @@ use Rattle.traces.proofs.reader.check.Goals as goal
 
 pub returns-in_err-check_rows : goal.returns-in_err-check_rows
 returns-in_err-check_rows c =
-    let p = err_from_is_err_and c.from-residual-in_err-check_rows.result c.from-residual-in_err-check_rows.ensures.1 in
+    let p = err_from_is_err_and c.from_residual-in_err-check_rows.result c.from_residual-in_err-check_rows.ensures.1 in
     rw (p.1, p.2) (faulty_rows c.args.text.now _ _ _ c.in_ok-order.ensures _ c.in_err-check_rows.ensures)
 
 pub returns : goal.returns

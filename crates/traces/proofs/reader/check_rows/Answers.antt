@@ -11,7 +11,7 @@ returns c = (_, sofar_end _ _ _ _ c.loop-rest.rest.now (true-eqb _ 0 c.loop-rest
 
 pub returns-in_err-after : goal.returns-in_err-after
 returns-in_err-after c =
-    let p = err_from_is_err_and c.from-residual.result c.from-residual.ensures.1 in
+    let p = err_from_is_err_and c.from_residual.result c.from_residual.ensures.1 in
     rw (p.1, p.2) (c.loop-rest.invariant.2.1 (Err _) c.in_err-after.ensures)
 
 pub loop-rest-preserved : goal.loop-rest-preserved

@@ -8,7 +8,7 @@ use Rattle.traces.proofs.reader.read_trace.Goals as goal
 
 pub returns-in_err-rows : goal.returns-in_err-rows
 returns-in_err-rows c =
-    let p = err_from_is_err_and c.from-residual-in_err-rows.result c.from-residual-in_err-rows.ensures.1 in
+    let p = err_from_is_err_and c.from_residual-in_err-rows.result c.from_residual-in_err-rows.ensures.1 in
     rw (p.1, p.2) (read_fails c.args.text.now _ _ _ c.in_ok-header.ensures _ c.in_ok-check.ensures c.in_err-rows.ensures)
 
 pub from_parts-requires : goal.from_parts-requires

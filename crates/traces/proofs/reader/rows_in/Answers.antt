@@ -7,7 +7,7 @@ use Rattle.traces.proofs.reader.rows_in.Goals as goal
 
 pub returns-in_err-row : goal.returns-in_err-row
 returns-in_err-row c =
-    let p = err_from_is_err_and c.from-residual.result c.from-residual.ensures.1 in
+    let p = err_from_is_err_and c.from_residual.result c.from_residual.ensures.1 in
     rw (p.1, p.2) (c.loop-rest.invariant.2 (Err _) c.in_err-row.ensures)
 
 pub loop-rest-preserved : goal.loop-rest-preserved

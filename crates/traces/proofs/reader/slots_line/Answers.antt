@@ -6,7 +6,7 @@ use Rattle.traces.proofs.reader.slots_line.Goals as goal
 
 pub returns-in_err-text : goal.returns-in_err-text
 returns-in_err-text c =
-    let p = err_from_is_err_and c.from-residual.result c.from-residual.ensures.1 in
+    let p = err_from_is_err_and c.from_residual.result c.from_residual.ensures.1 in
     let told = c.in_err-text.ensures in
     rw (p.1, p.2) (λ o. least_line o 2 _ _ told.0 told.1 (inl (omega arith)))
 

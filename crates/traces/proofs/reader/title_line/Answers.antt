@@ -6,7 +6,7 @@ use Rattle.traces.proofs.reader.title_line.Goals as goal
 
 pub returns-in_err-names : goal.returns-in_err-names
 returns-in_err-names c =
-    let p = err_from_is_err_and c.from-residual.result c.from-residual.ensures.1 in
+    let p = err_from_is_err_and c.from_residual.result c.from_residual.ensures.1 in
     let told = c.in_err-names.ensures in
     rw (p.1, p.2) (λ o. least_line o 1 _ _ told.0 told.1 (inl (omega arith)))
 

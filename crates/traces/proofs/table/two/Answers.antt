@@ -4,7 +4,7 @@ use Rattle.std.proofs.lemmas.Bool.{both_ways}
 use Rattle.traces.specs.Layout.{One, left, right}
 use Rattle.traces.proofs.Cuts.{left_is, right_is, upto_le}
 use Rattle.traces.proofs.table.two.Goals as goal
-use Rattle.traces.proofs.table.two.Goals.{then-not-is-one-via-then-not-is-one, then-not-is-one-via-else-not-is-one+then-not-is-one-2}
+use Rattle.traces.proofs.table.two.Goals.{then-not-is_one-via-then-not-is_one, then-not-is_one-via-else-not-is_one+then-not-is_one-2}
 
 pub returns-then-space-text : goal.returns-then-space-text
 returns-then-space-text c =
@@ -17,8 +17,8 @@ returns-then-not-is_one c =
     let at = c.position-space.ensures.is in (
       λ h.
           elim c.then-not-is_one.branch [
-            | then-not-is-one-via-then-not-is-one w ↦ both_ways _ w.if-not-is_one.true (c.is_one.ensures.no (subst One (sym (left_is b i at)) h.0))
-            | then-not-is-one-via-else-not-is-one+then-not-is-one-2 w ↦ both_ways _ w.if-not-is_one-2.true (w.is_one-else-not-is_one.ensures.no (subst One (sym (right_is b i at)) h.1))
+            | then-not-is_one-via-then-not-is_one w ↦ both_ways _ w.if-not-is_one.true (c.is_one.ensures.no (subst One (sym (left_is b i at)) h.0))
+            | then-not-is_one-via-else-not-is_one+then-not-is_one-2 w ↦ both_ways _ w.if-not-is_one-2.true (w.is_one-else-not-is_one.ensures.no (subst One (sym (right_is b i at)) h.1))
           ],
       refl,
     )

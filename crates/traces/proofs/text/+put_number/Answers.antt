@@ -9,8 +9,8 @@ put_number-last-requires t c = (
   (c.requires.low, (c.requires.high, omega (arith, c.requires.room, length_numeral_step c.args.base c.args.n c.requires.low c.if-n-base.false))),
 )
 
-pub bounds-out_at : goal.bounds-out_at
-bounds-out_at t c = omega (arith, c.requires.room, ap length (numeral_small c.args.base c.args.n c.requires.low c.if-n-base.true))
+pub bounds-out-at : goal.bounds-out-at
+bounds-out-at t c = omega (arith, c.requires.room, ap length (numeral_small c.args.base c.args.n c.requires.low c.if-n-base.true))
 
 pub returns-then-n-base : goal.returns-then-n-base
 returns-then-n-base t c =

@@ -7,7 +7,7 @@ use Rattle.traces.proofs.values.numeral.Goals as goal
 
 pub returns-in_err-d : goal.returns-in_err-d
 returns-in_err-d c =
-    rw c.from-residual.ensures
+    rw c.from_residual.ensures
     (λ all. c.in_err-d.ensures.told (wider _ _ c.requires.base (All-get_or (Digit c.args.radix) c.args.text.now c.loop-b.b-index 0 c.loop-b-test.true all)))
 
 pub returns-then-d-radix : goal.returns-then-d-radix

@@ -12,7 +12,7 @@ returns-then-is_empty c =
 pub returns-in_err-n : goal.returns-in_err-n
 returns-in_err-n c =
     let not : Fits c.args.column c.args.text.now → ⊥ = search rules in
-    rw c.from-residual.ensures (record { is = sym (unfit_reading _ _ not); told = not })
+    rw c.from_residual.ensures (record { is = sym (unfit_reading _ _ not); told = not })
 
 pub returns-then-n-high : goal.returns-then-n-high
 returns-then-n-high c =

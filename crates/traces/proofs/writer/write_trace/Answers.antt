@@ -6,7 +6,7 @@ use Rattle.traces.proofs.writer.write_trace.Goals as goal
 
 pub returns-in_err-check_fit : goal.returns-in_err-check_fit
 returns-in_err-check_fit c =
-    let p = err_from_is_err_and c.from-residual.result c.from-residual.ensures.1 in
+    let p = err_from_is_err_and c.from_residual.result c.from_residual.ensures.1 in
     rw (p.1, p.2) (inl c.in_err-check_fit.ensures, refl)
 
 pub put_head-at-requires : goal.put_head-at-requires

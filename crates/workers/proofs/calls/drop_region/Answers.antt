@@ -4,6 +4,6 @@ use Rattle.workers.proofs.calls.drop_region.Goals as goal
 
 pub returns : goal.returns
 returns g c = record {
-  good = c.drop_done.ensures.good;
-  leases = drop_keeps same_number _ _ c.args.key c.drop_done.result c.drop_done.ensures.step;
+  good = c.drop-done.ensures.good;
+  leases = drop_keeps same_number _ _ c.args.key c.drop-done.result c.drop-done.ensures.step;
 }

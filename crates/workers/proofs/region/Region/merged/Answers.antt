@@ -9,4 +9,4 @@ merge_into-count-requires c = let e : length c.triangles.result.now ≤ 8 = subs
 pub invariant_of-result : goal.invariant_of-result
 invariant_of-result c =
     let e : length c.triangles.result.now ≤ 8 = subst (λ (ts : List Triangle). length ts ≤ 8) (sym c.triangles.ensures) (few c.args.self.now.count c.args.self.now.triangles c.args.self.now.few) in
-    (omega (arith, c.merge_into-count.ensures.count), tt)
+    record { few = omega (arith, c.merge_into-count.ensures.count) }
