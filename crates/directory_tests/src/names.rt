@@ -38,6 +38,6 @@ fn same_bytes(rt: HostRuntime) -> Result<(), Fail> {
     assert!(rt; gear.same(&again));
     assert!(rt; !gear.same(&longer));
     assert_eq!(rt; gear.home(), again.home());
-    assert!(rt; gear.bytes() == b"GEAR");
+    assert!(rt; gear.bytes() == b"GEAR".as_slice());
     Ok(())
 }
