@@ -15,12 +15,12 @@ returns-in_err-found g c =
 pub returns-then-is_some : goal.returns-then-is_some
 returns-then-is_some g c = record {
   good = c.get.ensures.good;
-  goes = λ m before h. (found_goes m c.args.slab.now before c.args.row _ _ _ c.in_ok-found.found (sym c.is_some.ensures ∙ c.if-is_some.true) h c.in_ok-found.ensures.step, refl);
+  goes = λ m before h. (found_goes m c.args.slab.now before c.args.row _ _ (record { ref_ptr = c.args.slab.ref_ptr; now = c.args.slab.now }) c.in_ok-found.found (sym c.is_some.ensures ∙ c.if-is_some.true) h c.in_ok-found.ensures.step, refl);
 }
 
 pub returns : goal.returns
 returns g c = record {
   good = c.keep_row.ensures.good;
   goes = λ m before h. c.keep_row.ensures.goes m before
-      (missed_goes m c.args.slab.now before c.args.row _ _ _ c.in_ok-found.found (sym c.is_some.ensures ∙ c.if-is_some.false) h c.in_ok-found.ensures.step);
+      (missed_goes m c.args.slab.now before c.args.row _ _ (record { ref_ptr = c.args.slab.ref_ptr; now = c.args.slab.now }) c.in_ok-found.found (sym c.is_some.ensures ∙ c.if-is_some.false) h c.in_ok-found.ensures.step);
 }
