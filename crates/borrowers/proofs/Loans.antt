@@ -1,5 +1,5 @@
 -- No call but a lease and a give-back changes which leases are out, and the two together do not either.
-use Rattle.std.proofs.Common.{◌≡◌, ℕ, ◌<◌, Bool, true, false, cond, not, ◌&&◌, eqb, List, length, is_some, Some, None, Ok, Err, Option, Result, sym, refl, ap, ◌∙◌, subst, ⊎_elim, arith, get_or-set_other, get_or-set_same}
+use Rattle.std.proofs.Common.{◌≡◌, ℕ, ◌<◌, Bool, true, false, cond, ◌&&◌, eqb, List, length, Some, None, Ok, Err, Option, Result, sym, refl, ap, ◌∙◌, subst, ⊎_elim, arith, get_or-set_other, get_or-set_same}
 use Rattle.std.proofs.lemmas.Bool.{cases_eq, and_right}
 use Rattle.promises.specs.declared.answers.Refusal.{Refusal}
 use Rattle.promises.specs.declared.answers.Kept.{Kept}
@@ -9,7 +9,7 @@ use Rattle.promises.specs.declared.records.Lending.TheVariants.{Idle}
 use Rattle.promises.specs.declared.records.Record.{Record}
 use Rattle.promises.specs.declared.records.Table.{Table}
 use Rattle.promises.specs.declared.records.Ticket.{Ticket}
-use Rattle.promises.specs.State.{State, Sound, blank, held_slot, record_at, with_record, is_out, out_at, known}
+use Rattle.promises.specs.State.{State, Sound, blank, record_at, with_record, is_out, out_at, known}
 use Rattle.promises.specs.Events.{Part, gets, keeps, leases, writes, gives_back, drops}
 use Rattle.promises.specs.Steps.{Step, Takes, out_slot, touched, with_lending}
 use Rattle.promises.proofs.Seeks.{found_below}

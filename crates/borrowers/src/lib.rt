@@ -1,5 +1,7 @@
 //! Worker code over any cache, in the form that all such code has: whoever leases a region gives it back on every path, also where its
 //! work with the region is refused. It depends on the cache and on the traits that the cache is built of, and on no implementation of them.
+#![tactic(auto)]
+
 ghost use Rattle.std.specs.Prelude.{◌≡◌, true, Ok};
 ghost use Rattle.promises.specs.State.{known};
 ghost use Rattle.promises.specs.Events.{gives_back};

@@ -2,7 +2,7 @@
 use Rattle.std.proofs.Common.{◌≡◌, ℕ, ◌<◌, List, map, length, get_or, set, Option, sym, refl, ap, ◌∙◌, drop-set-lt}
 use Rattle.std.proofs.lemmas.List.{get_or-map, map-set, set-get_or}
 use Rattle.directories.specs.declared.cells.Cell.{Cell}
-use Rattle.directories.specs.Cells.{keys_of, heads_of, nexts_of, frees_of, Wrote, WroteKey, WroteHead, WroteNext, WroteFree}
+use Rattle.directories.specs.Cells.{WroteKey, WroteHead, WroteNext, WroteFree}
 
 module _ {A B : Type 0} (f : A → B) where
   pub read : (xs : List A) (i : ℕ) (d : A) (e : B) → i < length xs → f (get_or xs i d) ≡ get_or (map f xs) i e

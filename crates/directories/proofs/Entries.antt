@@ -1,14 +1,14 @@
 -- What the calls on a table answer and leave.
-use Rattle.std.proofs.Common.{◌≡◌, ℕ, ◌+◌, ◌-◌, ◌<◌, ◌≤◌, min, Bool, true, false, cond, not, ◌||◌, eqb, ◌≢◌, ◌⊎◌, List, map, length, get_or, take, set, replicate, is_some, Some, None, Option, sym, refl, ap, ◌∙◌, subst, inl, inr, ⊎_elim, arith}
+use Rattle.std.proofs.Common.{◌≡◌, ℕ, ◌+◌, ◌-◌, ◌<◌, ◌≤◌, Bool, true, false, ◌≢◌, List, map, length, get_or, take, set, replicate, is_some, Some, None, Option, sym, refl, ap, ◌∙◌, ⊎_elim, arith}
 use lib.Seq.{take-set-lt}
 use Rattle.std.proofs.lemmas.List.{length-map, length-take-le, get_or-take, get_or-set_same, get_or-set_other, length-replicate, get_or-replicate, ext_get_or, get_or-map, get_or_past}
-use Rattle.std.proofs.lemmas.Bool.{both_ways, cases_eq, cases_lt, eq-eqb, ne_eqb, or_right, or_left, or_from}
+use Rattle.std.proofs.lemmas.Bool.{both_ways, cases_eq, eq-eqb, ne_eqb, or_right, or_left, or_from}
 use Rattle.keys.specs.Sameness.{SameLaws}
 use Rattle.directories.specs.declared.cells.Cell.{Cell}
-use Rattle.directories.specs.Cells.{keys_of, heads_of, nexts_of, frees_of, key_in, Wrote, WroteFree}
-use Rattle.directories.specs.Meaning.{DirectoryMeaning, with_keys, pairs, holds, slot_in, find, declines, entered, Enters, removed, freed, key_at, size}
-use Rattle.directories.specs.Links.{Least, First, Linked, Chained, Stacked, Apart, in_bucket, stands}
-use Rattle.directories.specs.Tables.{Sound, Held, Threaded, Located, table, free_after, vacant, Wiped}
+use Rattle.directories.specs.Cells.{keys_of, frees_of, WroteFree}
+use Rattle.directories.specs.Meaning.{with_keys, pairs, holds, slot_in, find, Enters, removed, freed}
+use Rattle.directories.specs.Links.{in_bucket, stands}
+use Rattle.directories.specs.Tables.{Sound, Held, Threaded, Located, table, vacant, Wiped}
 use Rattle.directories.proofs.Counts.{pairs_none}
 use Rattle.directories.proofs.Sounds.{popped, pushed, apart_in, apart_out, sought}
 

@@ -1,9 +1,9 @@
 -- What the writes of one entry and of one removal leave.
-use Rattle.std.proofs.Common.{◌≡◌, ℕ, ◌+◌, ◌%◌, ◌<◌, ◌≤◌, Bool, true, false, List, map, length, get_or, set, Some, None, Option, sym, refl, ap, ◌∙◌, subst, arith}
+use Rattle.std.proofs.Common.{◌≡◌, ℕ, ◌%◌, ◌<◌, ◌≤◌, Bool, List, length, get_or, set, Some, None, Option, sym, ap, ◌∙◌, subst, arith}
 use Rattle.std.proofs.lemmas.List.{length-map, set-get_or}
 use Rattle.directories.specs.declared.cells.Cell.{Cell}
 use Rattle.directories.specs.Cells.{keys_of, heads_of, nexts_of, frees_of, key_in, Beyond, WroteKey, WroteNext, WroteLink}
-use Rattle.directories.specs.Links.{Last, Below, Linked, Chained, in_bucket, link_at, link_cell, heads_with, nexts_with}
+use Rattle.directories.specs.Links.{Last, Below, Chained, in_bucket, link_at, link_cell, heads_with, nexts_with}
 use Rattle.directories.specs.Tables.{Threaded}
 use Rattle.directories.proofs.Chains.{chained_in, chained_out}
 

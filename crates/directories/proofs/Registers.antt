@@ -1,13 +1,13 @@
 -- The tables of a numbered directory, as a number comes in or goes.
-use Rattle.std.proofs.Common.{◌≡◌, ℕ, ◌+◌, ◌-◌, ◌<◌, ◌≤◌, Bool, true, false, not, ◌||◌, eqb, ltb, ◌≢◌, ◌⊎◌, List, length, get_or, take, set, replicate, is_some, Some, None, Option, sym, refl, ap, ◌∙◌, subst, inl, inr, ⊎_elim, arith}
+use Rattle.std.proofs.Common.{◌≡◌, ℕ, ◌+◌, ◌-◌, ◌<◌, ◌≤◌, Bool, true, false, not, ◌≢◌, List, length, get_or, take, set, replicate, is_some, Some, None, Option, sym, refl, ap, ◌∙◌, subst, ⊎_elim, arith}
 use lib.Seq.{take-set-lt}
 use Rattle.std.proofs.lemmas.List.{length-take-le, length-set, get_or-take, get_or_past, get_or-set_same, get_or-set_other, length-replicate, get_or-replicate, ext_get_or}
-use Rattle.std.proofs.lemmas.Bool.{both_ways, cases_eq, cases_lt, cases_Bool, eq-eqb, eqb-true, ne_eqb, lt-ltb, or_right, or_left, or_from, not_from_true}
+use Rattle.std.proofs.lemmas.Bool.{both_ways, cases_eq, cases_Bool, eq-eqb, eqb-true, ne_eqb, lt-ltb, or_right, or_left, or_from, not_from_true}
 use Rattle.keys.specs.Regions.{same_number}
 use Rattle.keys.specs.declared.region.RegionNumber.{RegionNumber}
-use Rattle.directories.specs.Meaning.{DirectoryMeaning, with_keys, pairs, holds, slot_in, find, declines, entered, Enters, removed, freed, key_at}
-use Rattle.directories.specs.Links.{Least, Stacked}
-use Rattle.directories.specs.Numbers.{Looked, Ranked, NoKey, NoSlot, EverySlot, below, register}
+use Rattle.directories.specs.Meaning.{with_keys, pairs, holds, slot_in, declines, Enters, removed, freed}
+use Rattle.directories.specs.Links.{Least}
+use Rattle.directories.specs.Numbers.{Ranked, NoKey, NoSlot, EverySlot, below, register}
 use Rattle.directories.proofs.Counts.{pairs_none}
 use Rattle.directories.proofs.Sounds.{popped, pushed, sought}
 

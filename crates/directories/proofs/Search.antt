@@ -1,9 +1,9 @@
 -- The search along a chain, and the last slot of a chain below another.
-use Rattle.std.proofs.Common.{◌≡◌, ℕ, ◌+◌, ◌%◌, ◌<◌, ◌≤◌, Bool, true, false, ◌≢◌, ◌⊎◌, List, length, get_or, set, Some, None, Option, sym, refl, ap, ◌∙◌, subst, inl, inr, ⊎_elim, arith}
+use Rattle.std.proofs.Common.{◌≡◌, ℕ, ◌+◌, ◌%◌, ◌<◌, ◌≤◌, Bool, true, false, ◌≢◌, List, get_or, Some, None, Option, refl, ap, ⊎_elim, arith}
 use Rattle.std.proofs.lemmas.Bool.{both_ways, cases_eq, cases_lt, cases_Bool, eq-eqb}
 use Rattle.keys.specs.Sameness.{SameLaws}
 use Rattle.directories.specs.Meaning.{holds}
-use Rattle.directories.specs.Links.{First, Last, Below, Linked, Chained, stands, in_bucket}
+use Rattle.directories.specs.Links.{First, Last, Below, Chained, stands, in_bucket}
 
 module _ {K : Type 0} (same : K → K → Bool) (home : K → ℕ) (laws : SameLaws same home) (m : ℕ) (key : K) where
   held_stands : (o : Option K) → holds same key o ≡ true → stands home m (home key % m) o ≡ true

@@ -1,14 +1,11 @@
 -- The table of a hashed directory, as a key comes in or goes.
-use Rattle.std.proofs.Common.{◌≡◌, ℕ, ◌+◌, ◌-◌, ◌<◌, ◌≤◌, min, Bool, true, false, ◌||◌, eqb, ◌≢◌, ◌⊎◌, List, map, length, get_or, take, set, is_some, Some, None, Option, sym, refl, ap, ◌∙◌, subst, inl, inr, ⊎_elim, arith}
+use Rattle.std.proofs.Common.{◌≡◌, ℕ, ◌+◌, ◌-◌, ◌<◌, ◌≤◌, Bool, true, false, ◌≢◌, List, length, get_or, take, set, Some, None, Option, sym, ap, ◌∙◌, subst, ⊎_elim, arith}
 use lib.Seq.{take-set-lt}
-use Rattle.std.proofs.lemmas.List.{length-map, length-take-le, get_or-take, get_or_past, get_or-set_same, get_or-set_other, length-set}
-use Rattle.std.proofs.lemmas.Bool.{both_ways, cases_eq, cases_lt, eq-eqb, ne_eqb, or_right}
+use Rattle.std.proofs.lemmas.List.{length-take-le, get_or-take, get_or-set_same, get_or-set_other}
+use Rattle.std.proofs.lemmas.Bool.{both_ways, cases_eq}
 use Rattle.keys.specs.Sameness.{SameLaws}
-use Rattle.directories.specs.declared.cells.Cell.{Cell}
-use Rattle.directories.specs.Cells.{keys_of, heads_of, nexts_of, frees_of, Wrote}
-use Rattle.directories.specs.Meaning.{pairs, holds, slot_in, find, declines, entered, Enters, removed, freed, key_at, size}
-use Rattle.directories.specs.Links.{Least, Chained, Stacked, Apart}
-use Rattle.directories.specs.Tables.{Sound, table, free_after}
+use Rattle.directories.specs.Meaning.{pairs, holds, slot_in}
+use Rattle.directories.specs.Links.{Least, Stacked, Apart}
 use Rattle.directories.proofs.Counts.{pairs_in, pairs_out, slot_at, slot_absent}
 
 some_none : {K : Type 0} (o : Option K) (a : K) → o ≡ Some a → o ≡ None → ⊥

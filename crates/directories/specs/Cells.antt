@@ -1,5 +1,5 @@
 -- A row of cells, by its four columns, and what one write leaves of it.
-use Rattle.std.specs.Prelude.{◌≡◌, ℕ, ◌<◌, List, map, drop, Some, None, Option, slice_index_or, slice_set}
+use Rattle.std.specs.Prelude.{◌≡◌, ℕ, ◌<◌, List, map, drop, None, Option, slice_index_or, slice_set}
 use Rattle.directories.specs.declared.cells.Cell.{Cell}
 use Rattle.directories.specs.Links.{heads_with, nexts_with, link_cell}
 

@@ -1,5 +1,5 @@
 -- What holds of every valid directory: the facts that both directories give of themselves.
-use Rattle.std.specs.Prelude.{◌≡◌, ℕ, ◌<◌, ◌≤◌, Bool, true, ◌⊎◌, List, length, get_or, take, Some, None, Option, nat_lt, slice_index, slice_index_or}
+use Rattle.std.specs.Prelude.{◌≡◌, ℕ, ◌<◌, ◌≤◌, Bool, List, length, get_or, take, Some, None, Option, nat_lt, slice_index, slice_index_or}
 use Rattle.std.proofs.Math.Path.{refl, sym, ap}
 use Rattle.std.proofs.Common.{◌∙◌, ⊎_elim, arith}
 use Rattle.std.proofs.lemmas.List.{length-map, length-take-le, get_or-take, get_or_past}
@@ -9,7 +9,7 @@ use Rattle.directories.specs.declared.hashed.HashedDirectory.{HashedDirectory}
 use Rattle.directories.specs.declared.numbered.NumberedDirectory.{NumberedDirectory}
 use Rattle.directories.specs.Cells.{keys_of}
 use Rattle.directories.specs.Meaning.{Distinct, Respects, AllAdmitted}
-use Rattle.directories.specs.Numbers.{Ranked, NumberedValid, numbered_meaning}
+use Rattle.directories.specs.Numbers.{NumberedValid, numbered_meaning}
 use Rattle.directories.specs.Tables.{HashedValid, hashed_meaning}
 
 -- a key that stands in the first m slots of a list

@@ -1,5 +1,5 @@
 -- When the chains and the stack of free slots are in order.
-use Rattle.std.specs.Prelude.{◌≡◌, ℕ, ◌+◌, ◌%◌, ◌<◌, ◌≤◌, Bool, true, false, List, length, take, Some, None, Option, ◌==◌, slice_index, slice_index_or, slice_set}
+use Rattle.std.specs.Prelude.{◌≡◌, ℕ, ◌+◌, ◌%◌, ◌<◌, ◌≤◌, Bool, true, false, List, take, Some, None, Option, ◌==◌, slice_index, slice_index_or, slice_set}
 use Rattle.directories.specs.Meaning.{pairs}
 
 -- r is the first from j on, below m, at which f is true; or m if there is none.

@@ -1,5 +1,5 @@
 -- When the tables of a numbered directory are in order, and what they mean.
-use Rattle.std.specs.Prelude.{◌≡◌, ℕ, ◌<◌, ◌≤◌, Bool, true, List, length, take, Some, None, Option, nat_lt, slice_index, slice_index_or}
+use Rattle.std.specs.Prelude.{◌≡◌, ℕ, ◌<◌, ◌≤◌, Bool, List, length, take, Some, None, Option, nat_lt, slice_index, slice_index_or}
 use Rattle.keys.specs.Regions.{same_number}
 use Rattle.keys.specs.declared.region.RegionNumber.{RegionNumber}
 use Rattle.directories.specs.declared.numbered.NumberedDirectory.{NumberedDirectory}

@@ -1,6 +1,8 @@
 //! Directories: which key stands at which slot. One trait, `Directory`, and two of its kind: one over
 //! cells that the caller supplies, for every key kind, and one for small region numbers that has no
 //! search at all. Depends on `keys` alone.
+#![tactic(auto)]
+
 mod cells;
 mod directory;
 mod hashed;

@@ -1,5 +1,6 @@
 //! Forecast: reads a table of slots and costs from standard input, and prints in which order the slots would leave a pile,
 //! and with what credit. `forecasts` has all that decides; this program reads and prints.
+#![tactic(auto)]
 
 use anyhow::anyhow;
 use forecasts::foretell;

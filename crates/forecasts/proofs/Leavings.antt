@@ -1,13 +1,13 @@
 -- How the loops over an order come to what the definitions say.
-use Rattle.std.proofs.Common.{◌≡◌, ℕ, zero, suc, ◌+◌, ◌-◌, ◌<◌, ◌≤◌, Bool, true, false, cond, ltb, ◌⊎◌, List, [], ◌∷◌, ◌++◌, length, get_or, take, drop, Some, None, Option, sym, refl, ap, ◌∙◌, subst, ap₂, inl, inr, ⊎_elim, append_assoc, arith}
+use Rattle.std.proofs.Common.{◌≡◌, ℕ, suc, ◌+◌, ◌<◌, ◌≤◌, ltb, List, [], ◌∷◌, ◌++◌, length, get_or, drop, Some, None, sym, refl, ap, ◌∙◌, ap₂, append_assoc, arith}
 use Rattle.std.proofs.lemmas.List.{drop_more, drop_all, append-nil}
-use Rattle.std.proofs.lemmas.Bool.{cases_Bool, cond-true, cond-false, cond_both}
+use Rattle.std.proofs.lemmas.Bool.{cond_both}
 use Rattle.orders.specs.declared.Entry.{Entry}
 use Rattle.orders.specs.declared.Expelled.{Expelled}
 use Rattle.orders.specs.Meaning.{OrderMeaning, joined, fallen, takes, placed, leaver, rest, expelled, emptied, holding}
 use Rattle.forecasts.specs.Table.{row}
 use Rattle.forecasts.specs.declared.table.Row.{Row}
-use Rattle.forecasts.specs.Leaving.{all_placed, answers, departures, foretold}
+use Rattle.forecasts.specs.Leaving.{all_placed, answers, departures}
 
 -- ---- expel
 

@@ -1,5 +1,6 @@
 //! Forecasts: in which order the slots of a table would leave, and with what credit. This crate reads the table, runs any
 //! order over its rows, and compares the pile with the flat order. It depends on `orders` and `std`.
+#![tactic(auto)]
 
 mod fault;
 mod forecast;

@@ -1,4 +1,6 @@
 //! The orders as another crate sees them: what follows from their contracts alone, and tests of what they do. It depends on `orders` alone.
+#![tactic(auto)]
+
 ghost use Rattle.std.specs.Prelude.{◌≡◌};
 ghost use Rattle.order_tests.specs.Uses.{gone, FreshStack};
 

@@ -1,8 +1,7 @@
 -- How the calls of an order come to what their contracts say.
-use Rattle.std.proofs.Common.{◌≡◌, ℕ, ◌+◌, ◌<◌, ◌≤◌, Bool, true, false, cond, not, ◌&&◌, ◌||◌, eqb, ltb, leb, List, [], ◌∷◌, ◌++◌, sym, refl, ap, ◌∙◌, subst, ap₂, arith}
+use Rattle.std.proofs.Common.{◌≡◌, ℕ, ◌<◌, ◌≤◌, true, false, not, ◌&&◌, ltb, leb, ap, arith}
 use Rattle.std.proofs.lemmas.Bool.{and_from, and_left, and_right, lt-ltb, le-ltb, le-leb, lt-leb, not_from_true, not_from_false, cond-true, cond-false}
-use Rattle.orders.specs.declared.Entry.{Entry}
-use Rattle.orders.specs.Meaning.{OrderMeaning, takes, placed, withdrawn, holding, joined, waits, without}
+use Rattle.orders.specs.Meaning.{OrderMeaning, takes, placed, withdrawn, holding, joined, waits}
 use Rattle.orders.specs.Flat.{entry}
 use Rattle.orders.specs.Flats.{without_absent}
 

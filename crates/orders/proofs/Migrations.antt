@@ -1,9 +1,9 @@
 -- What a migration moves: the slots that the order below has due, one after the other.
-use Rattle.std.proofs.Common.{◌≡◌, ℕ, ◌+◌, ◌-◌, ◌*◌, ◌<◌, ◌≤◌, Bool, true, false, cond, eqb, List, [], ◌∷◌, ◌++◌, set, sym, refl, ap, ◌∙◌, subst, ap₂, ⊎_elim, append_assoc, append-nil, arith}
+use Rattle.std.proofs.Common.{◌≡◌, ℕ, ◌+◌, ◌-◌, ◌*◌, ◌<◌, ◌≤◌, false, cond, eqb, List, [], ◌∷◌, ◌++◌, set, sym, refl, ap, ◌∙◌, ap₂, ⊎_elim, append_assoc, append-nil, arith}
 use Rattle.std.proofs.lemmas.List.{get_or-set_other}
 use Rattle.std.proofs.lemmas.Bool.{cases_eq, cases_lt, eq-eqb, ne_eqb, eqb-false, cond-true, cond-false, or_parts, or_from}
 use Rattle.orders.specs.declared.Entry.{Entry}
-use Rattle.orders.specs.Meaning.{OrderMeaning, waits, fallen, rest, holding, some_due}
+use Rattle.orders.specs.Meaning.{OrderMeaning, waits, fallen, rest, holding}
 use Rattle.orders.specs.Rings.{at, holds}
 use Rattle.orders.specs.Rows.{Bare, BareBetween, Joins, Leaves}
 use Rattle.orders.specs.Flat.{entry}

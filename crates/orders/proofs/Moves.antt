@@ -1,23 +1,23 @@
 -- A wheel's expel: a slot of its own leaves, or slots come up from below.
-use Rattle.std.proofs.Common.{◌≡◌, ℕ, zero, suc, ◌+◌, ◌-◌, ◌*◌, ◌<◌, ◌≤◌, Bool, true, false, cond, not, ◌||◌, eqb, ltb, ◌⊎◌, List, [], ◌∷◌, ◌++◌, length, get_or, set, Some, None, Option, sym, refl, ap, ◌∙◌, subst, ap₂, inl, inr, ⊎_elim, arith}
+use Rattle.std.proofs.Common.{◌≡◌, ℕ, suc, ◌+◌, ◌-◌, ◌*◌, ◌<◌, ◌≤◌, Bool, true, false, cond, ◌||◌, eqb, ltb, List, [], ◌∷◌, ◌++◌, length, set, Some, None, sym, refl, ap, ◌∙◌, subst, ap₂, ⊎_elim, arith}
 use Rattle.std.specs.List.{AllByRecursion as All}
 use Rattle.std.proofs.ByRecursion.{All-weaker}
 use Rattle.std.proofs.lemmas.List.{get_or-set_same, get_or-set_other, length-set}
-use Rattle.std.proofs.lemmas.Bool.{cases_eq, cases_lt, eq-eqb, ne_eqb, lt-ltb, le-ltb, cond-true, cond-false, or_from, or_left, ltb-true, both_ways}
+use Rattle.std.proofs.lemmas.Bool.{cases_eq, cases_lt, eq-eqb, ne_eqb, le-ltb, cond-true, cond-false, or_left, ltb-true, both_ways}
 use Rattle.orders.specs.declared.Entry.{Entry}
 use Rattle.orders.specs.declared.Expelled.{Expelled}
 use Rattle.orders.specs.declared.queues.Queues.{Queues}
 use Rattle.orders.specs.Meaning.{OrderMeaning, Lawful, joined, waits, without, fallen, leaver, rest, some_due, Sorted, Apart, holding}
 use Rattle.orders.specs.Rings.{at, queue, holds, sans}
 use Rattle.orders.specs.Flat.{entry, tagged, flat}
-use Rattle.orders.specs.Wheels.{Over, lifted, lift, merged, own, wheel, Linked, Sound}
-use Rattle.orders.specs.Flats.{flat_joined, flat_same, flat_without, flat_skip, flat_fallen, flat_from, without_first}
+use Rattle.orders.specs.Wheels.{Over, lifted, lift, merged, own, wheel, Linked}
+use Rattle.orders.specs.Flats.{flat_joined, flat_without, flat_skip, flat_fallen, flat_from, without_first}
 use Rattle.orders.specs.Laws.{flat_apart, none_due}
 use Rattle.orders.specs.Facts.{member_of, once_of, lone_of, home_long_of}
 use Rattle.orders.specs.Bottoms.{nothing}
 use Rattle.orders.specs.Merges.{join_all, merged_first, merged_fallen, due_none, lift_over, lift_fall, lift_down, lift_set, fallen_waits, fallen_zero, fallen_twice}
 use Rattle.orders.specs.Rows.{Joins}
-use Rattle.orders.specs.Turns.{of_credit, past_credit, bound_for, forgotten, least, moved, stays}
+use Rattle.orders.specs.Turns.{bound_for, forgotten, least, moved, stays}
 use Rattle.orders.proofs.Migrations.{Climbs, climb}
 use Rattle.orders.proofs.Owns.{lawful_rest, lawful_fallen}
 

@@ -1,18 +1,17 @@
 -- A wheel's place, withdraw and due: its own queues, and the order below.
-use Rattle.std.proofs.Common.{◌≡◌, ℕ, zero, suc, ◌+◌, ◌-◌, ◌*◌, ◌/◌, ◌%◌, ◌<◌, ◌≤◌, Bool, true, false, cond, not, ◌||◌, eqb, ltb, ◌⊎◌, List, [], ◌∷◌, ◌++◌, length, get_or, set, sym, refl, ap, ◌∙◌, subst, ap₂, inl, inr, ⊎_elim, arith}
-use Rattle.std.specs.List.{AllByRecursion as All}
+use Rattle.std.proofs.Common.{◌≡◌, ℕ, ◌+◌, ◌-◌, ◌*◌, ◌<◌, ◌≤◌, Bool, true, false, cond, ◌||◌, eqb, ltb, List, [], ◌∷◌, ◌++◌, length, set, sym, refl, ap, ◌∙◌, subst, ap₂, ⊎_elim, arith}
 use Rattle.std.proofs.ByRecursion.{All-weaker}
 use Rattle.std.proofs.lemmas.List.{get_or-set_same, get_or-set_other, length-set}
 use Rattle.std.proofs.lemmas.Bool.Decides.{nat_tests}
-use Rattle.std.proofs.lemmas.Bool.{cases_eq, cases_lt, eq-eqb, ne_eqb, lt-ltb, le-ltb, cond-true, cond-false, or_from, or_left, or_right, or_parts, ltb-true, ltb-false, both_ways}
+use Rattle.std.proofs.lemmas.Bool.{cases_eq, cases_lt, eq-eqb, ne_eqb, lt-ltb, le-ltb, cond-true, cond-false, or_from, or_left, both_ways}
 use Rattle.orders.specs.declared.Entry.{Entry}
 use Rattle.orders.specs.declared.queues.Queues.{Queues}
-use Rattle.orders.specs.Meaning.{OrderMeaning, Lawful, joined, waits, without, fallen, rest, some_due, Sorted, Apart, holding}
+use Rattle.orders.specs.Meaning.{OrderMeaning, Lawful, joined, waits, without, fallen, rest, some_due, holding}
 use Rattle.orders.specs.Rings.{at, queue, holds, sans}
-use Rattle.orders.specs.Flat.{entry, flat}
-use Rattle.orders.specs.Wheels.{lifted, lift, merged, own, wheel, Linked, Sound}
+use Rattle.orders.specs.Flat.{entry}
+use Rattle.orders.specs.Wheels.{lift, merged, own, wheel, Linked, Sound}
 use Rattle.orders.specs.Flats.{flat_joined, flat_same, flat_without, without_absent}
-use Rattle.orders.specs.Laws.{flat_waits_none, flat_waits_some, flat_sorted, none_due, flat_due_none, flat_due_some}
+use Rattle.orders.specs.Laws.{flat_waits_none, flat_waits_some, flat_sorted, none_due}
 use Rattle.orders.specs.Facts.{member_of, high_of}
 use Rattle.orders.specs.Bottoms.{nothing}
 use Rattle.orders.specs.Merges.{join_all, join_sorted, join_apart, join_waits, join_due, without_all, without_sorted, without_apart, waits_without, merged_waits, merged_due, merged_join, merged_without, due_none, lift_waits, lift_over, lift_without, lift_set, lift_join, fallen_all, fallen_sorted, fallen_apart}

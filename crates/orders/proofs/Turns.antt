@@ -1,8 +1,8 @@
 -- What a hand does in a row of queues.
-use Rattle.std.proofs.Common.{◌≡◌, ℕ, ◌+◌, ◌-◌, ◌/◌, ◌%◌, ◌<◌, ◌≤◌, Bool, true, false, eqb, ltb, List, [], ◌∷◌, sym, refl, ap, ◌∙◌, subst, ⊎_elim, arith}
-use Rattle.std.proofs.lemmas.Bool.{lt-ltb, le-ltb, cond-true, cond-false, eq-eqb, or_left, cases_eq}
+use Rattle.std.proofs.Common.{◌≡◌, ℕ, ◌+◌, ◌/◌, ◌%◌, ◌<◌, ◌≤◌, true, eqb, ltb, List, [], ◌∷◌, sym, refl, ap, ◌∙◌, subst, arith}
+use Rattle.std.proofs.lemmas.Bool.{lt-ltb, le-ltb, cond-true, cond-false, eq-eqb, or_left}
 use Rattle.orders.specs.declared.queues.Queues.{Queues}
-use Rattle.orders.specs.Rings.{queue, at, sans, holds, Once}
+use Rattle.orders.specs.Rings.{queue, sans, holds, Once}
 use Rattle.orders.specs.Rows.{BareBetween, Loses, Leaves}
 use Rattle.orders.specs.Flat.{turned}
 use Rattle.orders.specs.declared.Order.{Ghosts}

@@ -1,20 +1,18 @@
 -- A bottom wheel: its queues from the hand on are its entries.
-use Rattle.std.specs.Prelude.{◌≡◌, ℕ, zero, suc, ◌+◌, ◌-◌, ◌%◌, ◌<◌, ◌≤◌, Bool, true, false, cond, not, ◌||◌, ◌⊎◌, List, [], ◌∷◌, ◌++◌, length, ◌==◌, nat_lt, refl}
+use Rattle.std.specs.Prelude.{◌≡◌, ℕ, suc, ◌+◌, ◌-◌, ◌%◌, ◌<◌, ◌≤◌, false, cond, List, [], ◌∷◌, ◌++◌, ◌==◌, nat_lt, refl}
 use Rattle.std.proofs.Math.Path.{sym, ap}
-use Rattle.std.proofs.Common.{ap₂, subst, ◌∙◌, inl, inr, ⊎_elim}
-use Rattle.std.proofs.Math.Logic.{∥∥₁_elim}
+use Rattle.std.proofs.Common.{subst, ◌∙◌, ⊎_elim}
 use native.Mathlib.Omega.{arith}
 use Rattle.std.specs.List.{AllByRecursion as All}
-use Rattle.std.proofs.ByRecursion.{All-weaker}
 use Rattle.std.proofs.lemmas.List.{append-nil}
-use Rattle.std.proofs.lemmas.Bool.{cases_eq, cases_lt, eq-eqb, ne_eqb, lt-ltb, le-ltb, cond-true, cond-false}
+use Rattle.std.proofs.lemmas.Bool.{cases_lt, eq-eqb, ne_eqb, lt-ltb, le-ltb, cond-true, cond-false}
 use Rattle.orders.specs.declared.Entry.{Entry}
 use Rattle.orders.specs.declared.queues.Queues.{Queues}
-use Rattle.orders.specs.Meaning.{OrderMeaning, Lawful, joined, waits, without, fallen, some_due, Sorted, Apart}
-use Rattle.orders.specs.Rings.{sans, holds, Once, queue, at}
+use Rattle.orders.specs.Meaning.{Lawful, joined, waits, without, fallen, Apart}
+use Rattle.orders.specs.Rings.{sans, queue, at}
 use Rattle.orders.specs.Flat.{entry, tagged, flat, turned, bottom}
 use Rattle.orders.specs.Flats.{flat_same, flat_all, flat_without, flat_fallen, flat_skip, flat_split, flat_joined, without_first}
-use Rattle.orders.specs.Laws.{flat_waits_none, flat_waits_some, flat_sorted, flat_apart, flat_due_none, flat_due_some}
+use Rattle.orders.specs.Laws.{flat_waits_none, flat_waits_some, flat_sorted, flat_apart}
 use Rattle.orders.specs.Facts.{member_of, once_of, slots_of, high_of, lone_of}
 
 all_const : (P : Type 0) (xs : List ℕ) → P → All (λ _. P) xs

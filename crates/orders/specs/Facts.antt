@@ -1,15 +1,14 @@
 -- What the ghost fields of `Queues` tell.
-use Rattle.std.specs.Prelude.{◌≡◌, ℕ, zero, suc, ◌+◌, ◌-◌, ◌%◌, ◌<◌, ◌≤◌, Bool, true, false, cond, not, ◌||◌, ◌⊎◌, List, [], ◌∷◌, ◌++◌, length, ◌==◌, ◌≢◌, refl}
-use Rattle.std.proofs.Common.{sym, ap, ap₂, subst, ◌∙◌, inl, inr, ⊎_elim, arith}
+use Rattle.std.specs.Prelude.{◌≡◌, ℕ, ◌<◌, ◌≤◌, true, false, List, [], ◌∷◌, length, ◌==◌, ◌≢◌, refl}
+use Rattle.std.proofs.Common.{sym, subst, ◌∙◌, ⊎_elim, arith}
 use Rattle.std.proofs.Math.Logic.{∥∥₁_elim}
-use mathlib.Core.List.{is_set}
 use Rattle.std.proofs.Math.Bool.{Bool-set}
 use Rattle.std.proofs.Math.Nat.{ℕ_set}
 use Rattle.std.proofs.Math.Bridge.{le_prop}
 use Rattle.std.specs.List.{AllByRecursion as All}
 use Rattle.std.proofs.lemmas.Bool.{or_from, ne_eqb, eqb-true, cases_lt}
 use Rattle.orders.specs.declared.queues.Queues.{Queues}
-use Rattle.orders.specs.Rings.{sans, holds, Once, queue, at}
+use Rattle.orders.specs.Rings.{holds, Once, queue, at}
 use Rattle.orders.specs.Laws.{all_prop, once_prop}
 
 pub member_of : (v : Queues) (q x : ℕ) → q < 256 → x < 1024 → holds x (queue v.next q) ≡ (at v.home x == q)

@@ -2,7 +2,7 @@
 use Rattle.std.specs.Prelude.{◌≡◌, ℕ, zero, suc, ◌<◌, true, false, List, [], ◌∷◌, Some, None, Option}
 use Rattle.orders.specs.declared.Expelled.{Expelled}
 use Rattle.orders.specs.Meaning.{OrderMeaning, takes, placed, leaver, expelled}
-use Rattle.orders.specs.Turns.{Destination, own_queue, below_with, goes_to, bottom_queue}
+use Rattle.orders.specs.Turns.{own_queue, below_with, goes_to, bottom_queue}
 
 -- What the next n calls of expel answer.
 abbrev pub answers : ℕ → OrderMeaning → List (Option Expelled)

@@ -1,16 +1,16 @@
 -- What the calls of the flat order come to, over the entries in placing order.
-use Rattle.std.specs.Prelude.{◌≡◌, ℕ, zero, suc, ◌+◌, ◌-◌, ◌<◌, ◌≤◌, Bool, true, false, cond, not, ◌&&◌, ◌||◌, ◌⊎◌, List, [], ◌∷◌, ◌++◌, length, take, drop, Some, None, Option, ◌==◌, ◌≢◌, nat_le, nat_lt, slice_range, slice_set, refl}
-use Rattle.std.proofs.Common.{sym, ap, ap₂, subst, ◌∙◌, inl, inr, ⊎_elim, append_assoc, arith, length-append, length-take, length-drop, length-set, length-take-le}
+use Rattle.std.specs.Prelude.{◌≡◌, ℕ, zero, suc, ◌+◌, ◌-◌, ◌<◌, ◌≤◌, Bool, true, false, ◌&&◌, ◌||◌, List, [], ◌∷◌, ◌++◌, length, take, drop, Some, ◌==◌, ◌≢◌, nat_le, nat_lt, slice_range, slice_set, refl}
+use Rattle.std.proofs.Common.{sym, ap, ap₂, subst, ◌∙◌, append_assoc, arith, length-append, length-drop, length-set, length-take-le}
 use borrow.Rule.Slice.PartMut.{put_mid}
 use Rattle.std.proofs.Math.Seq.{split_at}
 use Rattle.std.specs.List.{remove, AllByRecursion as All}
-use Rattle.std.proofs.ByRecursion.{All-weaker, All-push, All-append, All-get_or, All-from_get_or, All-take, All-drop}
+use Rattle.std.proofs.ByRecursion.{All-weaker, All-push, All-append, All-get_or, All-from_get_or}
 use Rattle.std.proofs.lemmas.List.{take_more, take_more_set, take_all, take-take, take_at, drop_more, drop-drop, drop-set-lt, get_or-take, get_or-drop}
 use Rattle.std.proofs.lemmas.Slice.{between_is}
-use Rattle.std.proofs.lemmas.Bool.{cases_eq, cases_Bool, eq-eqb, ne_eqb, cond-true, cond-false, or_parts, or_from, or_left, or_right, eqb-false, eqb-true, both_ways, and_parts, ltb-true, leb-true}
+use Rattle.std.proofs.lemmas.Bool.{eq-eqb, ne_eqb, or_parts, or_from, or_left, or_right, eqb-false, both_ways, and_parts, ltb-true, leb-true}
 use Rattle.std.proofs.lemmas.Bool.Decides.{nat_tests}
 use Rattle.orders.specs.declared.Entry.{Entry}
-use Rattle.orders.specs.Meaning.{OrderMeaning, Lawful, joined, waits, without, fallen, leaver, rest, some_due, Sorted, Apart, holding}
+use Rattle.orders.specs.Meaning.{Lawful, joined, waits, without, fallen, leaver, rest, some_due, Apart}
 use Rattle.orders.specs.Rings.{holds, Once}
 use Rattle.orders.specs.Flat.{entry}
 use Rattle.orders.specs.Wheels.{merged, Over}

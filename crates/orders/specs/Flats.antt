@@ -1,13 +1,13 @@
 -- The entries of a row of queues: joining, taking out, falling.
-use Rattle.std.specs.Prelude.{◌≡◌, ℕ, zero, suc, ◌+◌, ◌-◌, ◌<◌, ◌≤◌, Bool, true, false, cond, not, ◌||◌, ◌⊎◌, List, [], ◌∷◌, ◌++◌, ◌==◌, ◌≢◌, nat_lt, refl}
-use Rattle.std.proofs.Common.{sym, ap, ap₂, subst, ◌∙◌, inl, inr, ⊎_elim, append_assoc, arith}
+use Rattle.std.specs.Prelude.{◌≡◌, ℕ, zero, suc, ◌+◌, ◌-◌, ◌<◌, ◌≤◌, Bool, false, ◌||◌, List, [], ◌∷◌, ◌++◌, ◌==◌, ◌≢◌, nat_lt, refl}
+use Rattle.std.proofs.Common.{sym, ap, ap₂, ◌∙◌, ⊎_elim, append_assoc, arith}
 use Rattle.std.specs.List.{AllByRecursion as All}
-use Rattle.std.proofs.ByRecursion.{All-append, All-weaker}
+use Rattle.std.proofs.ByRecursion.{All-append}
 use Rattle.std.proofs.lemmas.Bool.Decides.{nat_tests}
-use Rattle.std.proofs.lemmas.Bool.{cases_eq, cases_lt, cases_Bool, eq-eqb, ne_eqb, lt-ltb, le-ltb, cond-true, cond-false, or_parts, or_from, or_left, or_right, eqb-false, eqb-true}
+use Rattle.std.proofs.lemmas.Bool.{cases_eq, cases_Bool, eq-eqb, lt-ltb, le-ltb, cond-true, cond-false, or_parts}
 use Rattle.orders.specs.declared.Entry.{Entry}
-use Rattle.orders.specs.Meaning.{joined, waits, without, fallen, some_due, Sorted, Apart}
-use Rattle.orders.specs.Rings.{sans, holds, Once}
+use Rattle.orders.specs.Meaning.{joined, waits, without, fallen}
+use Rattle.orders.specs.Rings.{sans, holds}
 use Rattle.orders.specs.Flat.{entry, tagged, flat}
 
 -- ---- lists of entries

@@ -1,5 +1,5 @@
 -- The bottom wheel and the wheel, as orders: what they mean, which states they keep to, and when their hands are at 0.
-use Rattle.std.specs.Prelude.{◌≡◌, ℕ, ◌<◌}
+use Rattle.std.specs.Prelude.{◌≡◌, ◌<◌}
 use Rattle.orders.specs.declared.Order.{Ghosts}
 use Rattle.orders.specs.declared.bottom.BottomWheel.{BottomWheel}
 use Rattle.orders.specs.declared.wheel.Wheel.{Wheel}

@@ -1,19 +1,16 @@
 -- The laws of an order, for the entries of a row of queues.
-use Rattle.std.specs.Prelude.{◌≡◌, ℕ, zero, suc, ◌+◌, ◌-◌, ◌%◌, ◌<◌, ◌≤◌, Bool, true, false, cond, not, ◌||◌, ◌⊎◌, List, [], ◌∷◌, ◌++◌, ◌==◌, refl}
-use Rattle.std.proofs.Common.{sym, ap, ap₂, subst, ◌∙◌, inl, inr, ⊎_elim, append_assoc, arith}
-use Rattle.std.proofs.Math.Logic.{∥∥₁_elim}
+use Rattle.std.specs.Prelude.{◌≡◌, ℕ, zero, suc, ◌+◌, ◌<◌, ◌≤◌, true, false, List, [], ◌∷◌, ◌++◌, ◌==◌, refl}
+use Rattle.std.proofs.Common.{sym, ap, ap₂, ◌∙◌, ⊎_elim, arith}
 use Rattle.std.proofs.Math.Bool.{Bool-set}
 use Prim.{IsProp}
-use Rattle.std.proofs.Math.Bridge.{le_prop}
 use Rattle.std.specs.List.{AllByRecursion as All}
-use Rattle.std.proofs.ByRecursion.{All-append, All-weaker}
-use Rattle.std.proofs.lemmas.Bool.Decides.{nat_tests}
-use Rattle.std.proofs.lemmas.Bool.{cases_eq, cases_lt, cases_Bool, eq-eqb, ne_eqb, lt-ltb, le-ltb, cond-true, cond-false, or_parts, or_from, or_left, or_right, eqb-false, eqb-true, both_ways}
+use Rattle.std.proofs.ByRecursion.{All-append}
+use Rattle.std.proofs.lemmas.Bool.{cases_eq, eq-eqb, ne_eqb, or_from, or_left, or_right}
 use Rattle.orders.specs.declared.Entry.{Entry}
-use Rattle.orders.specs.Meaning.{joined, waits, without, fallen, some_due, Sorted, Apart}
-use Rattle.orders.specs.Rings.{sans, holds, Once}
-use Rattle.orders.specs.Flat.{entry, tagged, flat}
-use Rattle.orders.specs.Flats.{flat_from, flat_all, tagged_waits, waits_append}
+use Rattle.orders.specs.Meaning.{waits, some_due, Sorted, Apart}
+use Rattle.orders.specs.Rings.{holds, Once}
+use Rattle.orders.specs.Flat.{tagged, flat}
+use Rattle.orders.specs.Flats.{flat_from, tagged_waits, waits_append}
 
 -- ---- at most one proof
 

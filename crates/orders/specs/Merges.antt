@@ -1,17 +1,17 @@
 -- Lists of entries that are merged, credit by credit.
-use Rattle.std.specs.Prelude.{◌≡◌, ℕ, zero, suc, ◌+◌, ◌-◌, ◌*◌, ◌<◌, ◌≤◌, Bool, true, false, cond, not, ◌||◌, ◌⊎◌, List, [], ◌∷◌, ◌++◌, length, ◌==◌, ◌≢◌, nat_lt, slice_set, refl}
-use Rattle.std.proofs.Common.{sym, ap, ap₂, subst, ◌∙◌, inl, inr, ⊎_elim, arith}
+use Rattle.std.specs.Prelude.{◌≡◌, ℕ, ◌+◌, ◌-◌, ◌*◌, ◌<◌, ◌≤◌, Bool, true, false, cond, ◌||◌, List, [], ◌∷◌, ◌==◌, ◌≢◌, nat_lt, slice_set, refl}
+use Rattle.std.proofs.Common.{sym, ap, ap₂, subst, ◌∙◌, ⊎_elim, arith}
 use Rattle.std.specs.List.{AllByRecursion as All}
 use Rattle.std.proofs.ByRecursion.{All-weaker}
 use Rattle.std.proofs.lemmas.List.{get_or-set_other}
 use Rattle.std.proofs.lemmas.Bool.Decides.{nat_tests}
-use Rattle.std.proofs.lemmas.Bool.{cases_eq, cases_lt, cases_Bool, eq-eqb, ne_eqb, lt-ltb, le-ltb, cond-true, cond-false, or_parts, or_from, or_left, or_right, eqb-false, eqb-true}
+use Rattle.std.proofs.lemmas.Bool.{cases_eq, cases_lt, eq-eqb, ne_eqb, lt-ltb, le-ltb, cond-true, cond-false, or_parts, or_from, or_left, or_right, eqb-false}
 use Rattle.orders.specs.declared.Entry.{Entry}
-use Rattle.orders.specs.Meaning.{OrderMeaning, Lawful, joined, waits, without, fallen, some_due, Sorted, Apart}
+use Rattle.orders.specs.Meaning.{joined, waits, without, fallen, some_due, Sorted, Apart}
 use Rattle.orders.specs.Rings.{at}
 use Rattle.orders.specs.Flat.{entry}
 use Rattle.orders.specs.Wheels.{lifted, lift, merged, Over}
-use Rattle.orders.specs.Flats.{joined_front, without_absent}
+use Rattle.orders.specs.Flats.{joined_front}
 
 -- ---- one place in a list
 

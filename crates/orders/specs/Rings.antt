@@ -1,5 +1,5 @@
 -- Rings of nodes through a table of successors: node 1024 + q is the anchor of queue q, and nodes below 1024 are slots.
-use Rattle.std.specs.Prelude.{◌≡◌, ℕ, zero, suc, ◌+◌, ◌<◌, ◌≤◌, Bool, true, false, cond, not, ◌||◌, List, [], ◌∷◌, length, ◌==◌, nat_lt, slice_index}
+use Rattle.std.specs.Prelude.{◌≡◌, ℕ, zero, suc, ◌+◌, ◌<◌, ◌≤◌, Bool, false, cond, ◌||◌, List, [], ◌∷◌, length, ◌==◌, nat_lt, slice_index}
 use Rattle.std.specs.List.{AllByRecursion as All}
 
 -- From node a the slots of the list follow one another, and then node b.

@@ -1,5 +1,5 @@
 -- What happens to a row of 256 queues, each given as the list of its slots, the oldest first.
-use Rattle.std.specs.Prelude.{◌≡◌, ℕ, ◌+◌, ◌%◌, ◌<◌, ◌≤◌, Bool, cond, List, [], ◌∷◌, ◌++◌, drop, ◌==◌, ◌≢◌}
+use Rattle.std.specs.Prelude.{◌≡◌, ℕ, ◌+◌, ◌%◌, ◌<◌, ◌≤◌, cond, List, [], ◌∷◌, ◌++◌, drop, ◌==◌, ◌≢◌}
 use Rattle.orders.specs.Rings.{queue, at, sans}
 use Rattle.orders.specs.Flat.{turned}
 

@@ -1,5 +1,5 @@
 -- A wheel over another order.
-use Rattle.std.specs.Prelude.{◌≡◌, ℕ, ◌+◌, ◌-◌, ◌*◌, ◌<◌, ◌≤◌, min, Bool, true, false, List, [], ◌∷◌, length, nat_lt}
+use Rattle.std.specs.Prelude.{◌≡◌, ℕ, ◌+◌, ◌-◌, ◌*◌, ◌<◌, ◌≤◌, min, false, List, [], ◌∷◌, length, nat_lt}
 use Rattle.std.specs.List.{AllByRecursion as All}
 use Rattle.orders.specs.declared.Entry.{Entry}
 use Rattle.orders.specs.Meaning.{OrderMeaning, Lawful, joined, waits, some_due}

@@ -2,6 +2,8 @@
 //! placing first among equals, and every credit that remains falls by the credit of the one that left. This crate has the
 //! meaning of an order, the trait `Order` that says it, and the orders that keep it: the flat order, the bottom wheel, a
 //! wheel over any order, and the pile of the last two. It depends on `std` alone.
+#![tactic(auto)]
+
 ghost use Rattle.std.specs.Prelude.{◌≡◌};
 ghost use Rattle.orders.specs.Meaning.{OrderMeaning, Lawful, waits, takes, placed, withdrawn, leaver, expelled, emptied};
 ghost use Rattle.orders.specs.Meaning.{some_due as someDue};

@@ -6,12 +6,12 @@ use Rattle.std.proofs.lemmas.Bool.{cases_eq, cases_Bool, cond-true, cond-false}
 use Rattle.keys.specs.Sameness.{SameLaws}
 use Rattle.orders.specs.declared.Entry.{Entry}
 use Rattle.orders.specs.Meaning.{OrderMeaning, joined, without, holding, takes, placed, withdrawn}
-use Rattle.directories.specs.Meaning.{DirectoryMeaning, key_at, pairs, holds}
+use Rattle.directories.specs.Meaning.{DirectoryMeaning, key_at, pairs}
 use Rattle.promises.specs.declared.records.Lending.TheVariants.{Idle, Lent}
 use Rattle.promises.specs.declared.records.Record.{Record}
 use Rattle.promises.specs.State.{State, Sound, slots, held_slot, blank, record_at, is_out, out_at}
 use Rattle.promises.specs.Steps.{touched, settled, withdrew, with_key, with_lending, lent_slot, rewritten, returned, dropped}
-use Rattle.promises.specs.GreedyDual.{Dual, lend, forget, region_of, others, touch, looked, kept, unranked, after}
+use Rattle.promises.specs.GreedyDual.{Dual, lend, forget, region_of, others, touch, looked, unranked, after}
 use Rattle.promises.proofs.Waits.{can_place, waits_gone}
 use Rattle.promises.proofs.Seeks.{slot_in_holds, some_key, held_below, key_freed, key_freed_other, key_entered}
 use Rattle.promises.proofs.Sounds.{out_not_waiting, held_small}

@@ -1,7 +1,7 @@
 -- The worked lines are lines.
-use Rattle.std.proofs.Common.{◌≡◌, ℕ, zero, suc, ◌<◌, ◌≤◌, Bool, true, false, eqb, List, [], ◌∷◌, length, get_or, Some, None, Ok, Err, Option, sym, refl, ap, ◌∙◌, subst, arith}
+use Rattle.std.proofs.Common.{◌≡◌, ℕ, eqb, [], ◌∷◌, Some, None, Ok, refl, arith}
 use Rattle.promises.specs.State.{State}
-use Rattle.promises.specs.Events.{Event, gets, keeps, leases}
+use Rattle.promises.specs.Events.{gets}
 use Rattle.promises.specs.Steps.{touched, settled, with_key, evicted, lent_slot}
 use Rattle.promises.specs.Lines.{made, Line}
 use Rattle.promises.specs.Rivals.{Rival, starts, discards, has_it, pays, unmoved}

@@ -1,10 +1,10 @@
 -- What holds of every view that a line leads to.
-use Rattle.std.proofs.Common.{◌≡◌, ℕ, ◌-◌, ◌≤◌, Bool, true, false, ◌⊎◌, List, [], ◌∷◌, sym, refl, ap, ◌∙◌, subst, ⊎_elim, arith}
+use Rattle.std.proofs.Common.{◌≡◌, ℕ, ◌≤◌, Bool, true, false, List, [], ◌∷◌, sym, refl, ap, ◌∙◌, subst, ⊎_elim, arith}
 use Rattle.std.proofs.lemmas.Bool.{cases_eq, both_ways}
 use Rattle.keys.specs.Sameness.{SameLaws}
 use Rattle.promises.specs.Events.{Event, Effect, effect, price_of, Each}
 use Rattle.promises.specs.History.{Priced}
-use Rattle.promises.proofs.Views.{Place, free, waits, lies_out, credit, price, holds, lower, View, Alike, Only, Expels, Enters, Unheld, Moves, rests, sees, touches, refreshes, takes, evicts, lends, takes_back, removes, Leads}
+use Rattle.promises.proofs.Views.{Place, free, waits, lies_out, holds, lower, View, Alike, Only, Expels, Enters, Unheld, Moves, rests, sees, touches, refreshes, takes, evicts, lends, takes_back, removes, Leads}
 
 module _ {K : Type 0} {i : ℕ} {p : Place K} {v w : View K} where
   -- what holds of the changed slot, and of the others

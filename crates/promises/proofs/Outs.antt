@@ -4,7 +4,7 @@ use lib.ListN.{length-replicate}
 use Rattle.std.proofs.lemmas.Bool.{cases_eq, cases_Bool, cases_lt, eq-eqb, ne_eqb, eqb-true, and_from, and_right, and_parts, cond-true, cond-false}
 use Rattle.std.proofs.lemmas.List.{get_or_past, get_or-replicate}
 use Rattle.keys.specs.Sameness.{SameLaws}
-use Rattle.directories.specs.Meaning.{size, key_at}
+use Rattle.directories.specs.Meaning.{key_at}
 use Rattle.promises.specs.declared.records.Ticket.{Ticket}
 use Rattle.promises.specs.State.{State, out_at, Sound}
 use Rattle.promises.specs.Events.{Event, Effect, effect, same_ticket, lent_after, lent}

@@ -1,26 +1,25 @@
 -- Every step keeps a cache sound, and a made cache is sound.
-use Rattle.std.proofs.Common.{◌≡◌, ℕ, zero, suc, ◌+◌, ◌*◌, ◌<◌, ◌≤◌, min, max, Bool, true, false, cond, not, ◌&&◌, ◌||◌, eqb, ltb, List, [], ◌∷◌, length, get_or, set, replicate, is_some, Some, None, Ok, Err, Option, sym, refl, ap, ◌∙◌, subst, ⊎_elim, arith, length-set, get_or-set_other, get_or-set_same}
+use Rattle.std.proofs.Common.{◌≡◌, ℕ, zero, suc, ◌*◌, ◌<◌, ◌≤◌, min, Bool, true, false, cond, not, ◌||◌, eqb, ltb, List, [], ◌∷◌, length, get_or, replicate, is_some, Some, None, Ok, Err, Option, sym, refl, ap, ◌∙◌, subst, ⊎_elim, arith, length-set, get_or-set_other, get_or-set_same}
 use lib.ListN.{length-replicate}
-use Rattle.std.proofs.lemmas.Bool.{cases_eq, cases_Bool, cond-true, cond-false, both_ways, and_parts, or_parts, or_left, or_right, eq-eqb, ne_eqb, eqb-false, eqb-true, ltb-false, not-false}
+use Rattle.std.proofs.lemmas.Bool.{cases_eq, cases_Bool, both_ways, and_parts, or_parts, or_left, or_right, eq-eqb, ne_eqb, eqb-false, ltb-false, not-false}
 use Rattle.std.proofs.lemmas.List.{get_or_past}
 use Rattle.keys.specs.Sameness.{SameLaws}
 use Rattle.orders.specs.declared.Expelled.{Expelled}
-use Rattle.orders.specs.Meaning.{OrderMeaning, Lawful, waits, takes, placed, withdrawn, expelled, leaver}
-use Rattle.directories.specs.Meaning.{DirectoryMeaning, Distinct, size, key_at, find, entered, freed}
+use Rattle.orders.specs.Meaning.{OrderMeaning, Lawful, waits, takes, placed, withdrawn, leaver}
+use Rattle.directories.specs.Meaning.{DirectoryMeaning, Distinct, key_at}
 use Rattle.promises.specs.declared.answers.Refusal.{Refusal}
-use Rattle.promises.specs.declared.answers.Refusal.TheVariants.{BadCost, LongValue, ShortSlab, UnknownLease, NotHeld, OnLease, NotAdmitted, AllOut}
+use Rattle.promises.specs.declared.answers.Refusal.TheVariants.{BadCost, LongValue, ShortSlab, UnknownLease, NotHeld, OnLease, NotAdmitted}
 use Rattle.promises.specs.declared.answers.Kept.TheVariants.{Refreshed, Taken, TakenEvicting}
-use Rattle.promises.specs.declared.records.Lending.{Lending}
 use Rattle.promises.specs.declared.records.Lending.TheVariants.{Idle, Lent}
 use Rattle.promises.specs.declared.records.Record.{Record}
 use Rattle.promises.specs.declared.records.Table.{Table}
 use Rattle.promises.specs.declared.records.Ticket.{Ticket}
 use Rattle.promises.specs.State.{State, Sound, SoundSlot, slots, held_slot, blank, record_at, with_record, is_out, out_at, known}
 use Rattle.promises.specs.Events.{Event, gets, keeps, leases, writes, gives_back, drops, tells}
-use Rattle.promises.specs.Steps.{Step, Takes, Evicts, first_of, bad_cost, long_value, short_slab, out_slot, no_room, keep_fault, write_fault, give_back_fault, absence_fault, touched, settled, withdrew, with_key, evicted, with_lending, lent_slot, rewritten, returned, dropped}
-use Rattle.promises.specs.Lines.{Making, made, chunk_size, Line}
+use Rattle.promises.specs.Steps.{Step, Takes, bad_cost, long_value, short_slab, out_slot, keep_fault, write_fault, give_back_fault, absence_fault, touched, settled, withdrew, with_key, evicted, with_lending, lent_slot, rewritten, returned, dropped}
+use Rattle.promises.specs.Lines.{Making, made, Line}
 use Rattle.promises.proofs.Waits.{waits_gone, waits_other, leaver_waits, leaver_gone, leaver_others, can_place, placed_size, placed_span, placed_waits, lawful_placed, lawful_withdrawn, lawful_expelled}
-use Rattle.promises.proofs.Seeks.{found_held, found_below, held_below, key_freed, key_freed_other, key_entered, distinct_freed, distinct_entered, absent_freed}
+use Rattle.promises.proofs.Seeks.{found_held, held_below, key_freed, key_freed_other, key_entered, distinct_freed, distinct_entered, absent_freed}
 
 -- ---- what the tests say
 

@@ -3,7 +3,7 @@ use Rattle.std.proofs.Common.{◌≡◌, ℕ, ◌-◌, ◌<◌, ◌≤◌, Bool,
 use Rattle.std.specs.List.{AllByRecursion as All}
 use Rattle.std.proofs.ByRecursion.{All-weaker}
 use Rattle.std.proofs.lemmas.Bool.Decides.{nat_tests}
-use Rattle.std.proofs.lemmas.Bool.{cases_eq, cases_lt, cases_Bool, eq-eqb, ne_eqb, lt-ltb, le-ltb, le-leb, cond-true, cond-false, or_parts, or_from, or_left, eqb-false, eqb-true, ltb-true, leb-true, and_parts, and_from, not_from_false, not-true}
+use Rattle.std.proofs.lemmas.Bool.{cases_eq, cases_lt, cases_Bool, eq-eqb, ne_eqb, lt-ltb, le-ltb, le-leb, cond-true, cond-false, or_parts, or_from, or_left, eqb-false, ltb-true, leb-true, and_parts, and_from, not_from_false, not-true}
 use Rattle.orders.specs.declared.Entry.{Entry}
 use Rattle.orders.specs.declared.Expelled.{Expelled}
 use Rattle.orders.specs.Meaning.{OrderMeaning, Lawful, joined, waits, without, fallen, holding, takes, placed, withdrawn, leaver, rest, expelled, Sorted, Apart}

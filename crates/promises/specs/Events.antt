@@ -1,5 +1,5 @@
 -- Events: each call of a cache with what it was given and what it answered; for a call that sees the slab, the slab's bytes before and after.
-use Rattle.std.specs.Prelude.{◌≡◌, ℕ, ◌+◌, Bool, true, false, cond, ◌&&◌, ◌||◌, List, [], ◌∷◌, Some, None, Ok, Err, Option, Result, ◌==◌}
+use Rattle.std.specs.Prelude.{ℕ, ◌+◌, Bool, cond, ◌&&◌, List, [], ◌∷◌, Some, None, Ok, Err, Option, Result, ◌==◌}
 use Rattle.promises.specs.declared.answers.Refusal.{Refusal}
 use Rattle.promises.specs.declared.answers.Kept.{Kept}
 use Rattle.promises.specs.declared.answers.Kept.TheVariants.{Refreshed, Taken, TakenEvicting}

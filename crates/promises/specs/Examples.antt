@@ -1,11 +1,11 @@
 -- Worked lines of calls, with figures. They show that the promises speak of something: their premises are met here.
-use Rattle.std.specs.Prelude.{◌≡◌, ℕ, true, false, List, [], ◌∷◌, replicate, Some, None, Ok, Err, ◌==◌, nat_eq}
+use Rattle.std.specs.Prelude.{◌≡◌, ℕ, true, false, List, [], ◌∷◌, Some, None, Ok, Err, ◌==◌, nat_eq}
 use Rattle.directories.specs.Meaning.{fresh}
 use Rattle.promises.specs.declared.answers.Refusal.TheVariants.{OnLease, AllOut}
-use Rattle.promises.specs.declared.answers.Kept.TheVariants.{Refreshed, Taken, TakenEvicting}
+use Rattle.promises.specs.declared.answers.Kept.TheVariants.{Taken, TakenEvicting}
 use Rattle.promises.specs.declared.answers.Presence.TheVariants.{Out}
 use Rattle.promises.specs.State.{State}
-use Rattle.promises.specs.Events.{Event, Part, gets, keeps, leases, writes, gives_back, drops, tells, effect, price_of, Each, paid, evictions}
+use Rattle.promises.specs.Events.{Event, gets, keeps, leases, tells, effect, price_of, Each, paid, evictions}
 use Rattle.promises.specs.Steps.{keep_fault}
 use Rattle.promises.specs.Lines.{Making, made, Line}
 use Rattle.promises.specs.Rivals.{Rival}

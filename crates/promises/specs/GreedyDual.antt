@@ -1,5 +1,5 @@
 -- GreedyDual in its own words: keys, costs, ranks and an inflation value that never wraps; no slots, no credits, no wheels.
-use Rattle.std.specs.Prelude.{ℕ, ◌+◌, Bool, true, false, cond, not, List, [], ◌∷◌, ◌++◌, length, is_some, Some, None, Ok, Err, Option, ◌==◌, nat_le}
+use Rattle.std.specs.Prelude.{ℕ, ◌+◌, Bool, true, false, cond, List, [], ◌∷◌, ◌++◌, length, is_some, Some, None, Ok, Err, Option, ◌==◌, nat_le}
 use Rattle.promises.specs.declared.answers.Kept.TheVariants.{Refreshed, Taken, TakenEvicting}
 use Rattle.promises.specs.Events.{Event, gets, keeps, leases, writes, gives_back, drops, tells, lent}
 

@@ -2,7 +2,7 @@
 use Rattle.std.specs.Prelude.{◌≡◌, ℕ, min, max, Bool, List, [], ◌∷◌, replicate}
 use Rattle.orders.specs.Meaning.{OrderMeaning, emptied}
 use Rattle.directories.specs.Meaning.{DirectoryMeaning, emptied as emptied-directory}
-use Rattle.promises.specs.State.{State, slots, blank}
+use Rattle.promises.specs.State.{State, blank}
 use Rattle.promises.specs.Events.{Event}
 use Rattle.promises.specs.Steps.{Step}
 

@@ -1,5 +1,5 @@
 -- What a cache promises over every line of calls, for every key kind and every meaning of directory and order.
-use Rattle.std.specs.Prelude.{◌≡◌, ℕ, ◌+◌, ◌-◌, ◌*◌, ◌≤◌, Bool, true, false, ◌⊎◌, List, [], ◌∷◌, ◌++◌, length, Some, None, Ok, Err, ◌≢◌}
+use Rattle.std.specs.Prelude.{◌≡◌, ℕ, ◌+◌, ◌-◌, ◌*◌, ◌≤◌, Bool, true, false, ◌⊎◌, List, ◌∷◌, ◌++◌, length, Some, None, Ok, Err, ◌≢◌}
 use Rattle.directories.specs.Meaning.{key_at}
 use Rattle.promises.specs.declared.answers.Refusal.{Refusal}
 use Rattle.promises.specs.declared.answers.Refusal.TheVariants.{OnLease, ShortSlab}

@@ -1,5 +1,5 @@
 -- The state of a cache as values: who is where, who waits, and what is remembered of each slot. It has no bytes, which are the host's.
-use Rattle.std.specs.Prelude.{◌≡◌, ℕ, ◌≤◌, Bool, true, false, cond, ◌&&◌, ◌||◌, List, length, is_some, Some, None, Option, ◌==◌, ◌≢◌, slice_index_or, slice_set}
+use Rattle.std.specs.Prelude.{◌≡◌, ℕ, ◌≤◌, Bool, true, false, ◌&&◌, ◌||◌, length, is_some, Option, ◌==◌, ◌≢◌, slice_index_or, slice_set}
 use Rattle.orders.specs.Meaning.{OrderMeaning, Lawful, waits}
 use Rattle.directories.specs.Meaning.{DirectoryMeaning, Distinct, size, key_at, find}
 use Rattle.promises.specs.declared.records.Lending.{Lending}

@@ -1,12 +1,11 @@
 -- The step of a call: exactly what it answers and leaves. The first test of its list that is true refuses it, and a refusal changes nothing.
-use Rattle.std.specs.Prelude.{◌≡◌, ℕ, zero, suc, ◌+◌, ◌*◌, ◌<◌, Bool, true, false, cond, not, ◌&&◌, ◌||◌, List, [], ◌∷◌, ◌++◌, length, take, drop, is_some, Some, None, Ok, Err, Option, Result, ◌==◌, nat_lt}
+use Rattle.std.specs.Prelude.{◌≡◌, ℕ, zero, suc, ◌+◌, ◌*◌, ◌<◌, Bool, true, false, cond, not, ◌&&◌, ◌||◌, List, [], ◌∷◌, ◌++◌, length, take, drop, is_some, Some, None, Ok, Err, Option, ◌==◌, nat_lt}
 use Rattle.orders.specs.declared.Expelled.{Expelled}
 use Rattle.orders.specs.Meaning.{placed, withdrawn, expelled, leaver}
-use Rattle.directories.specs.Meaning.{key_at, pairs, size, entered, freed}
+use Rattle.directories.specs.Meaning.{key_at, pairs, entered, freed}
 use Rattle.promises.specs.declared.answers.Refusal.{Refusal}
 use Rattle.promises.specs.declared.answers.Refusal.TheVariants.{BadCost, LongValue, ShortSlab, UnknownLease, NotHeld, OnLease, NotAdmitted, AllOut}
 use Rattle.promises.specs.declared.answers.Kept.TheVariants.{Refreshed, Taken, TakenEvicting}
-use Rattle.promises.specs.declared.answers.Evicted.{Evicted}
 use Rattle.promises.specs.declared.answers.Presence.{Presence}
 use Rattle.promises.specs.declared.answers.Presence.TheVariants.{Absent, Waiting, Out}
 use Rattle.promises.specs.declared.records.Lending.{Lending}
@@ -14,7 +13,7 @@ use Rattle.promises.specs.declared.records.Lending.TheVariants.{Idle, Lent}
 use Rattle.promises.specs.declared.records.Record.{Record}
 use Rattle.promises.specs.declared.records.Table.{Table}
 use Rattle.promises.specs.declared.records.Ticket.{Ticket}
-use Rattle.promises.specs.State.{State, slots, held_slot, record_at, with_record, is_out, out_at, known}
+use Rattle.promises.specs.State.{State, slots, held_slot, record_at, with_record, out_at, known}
 use Rattle.promises.specs.Events.{Event, Part, gets, keeps, leases, writes, gives_back, drops, tells}
 
 -- Refusals.

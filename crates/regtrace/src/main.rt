@@ -1,5 +1,6 @@
 //! Regtrace: replays the trace on standard input over a pile and prints what it came to. `replays` has all that decides; this program
 //! reads and prints.
+#![tactic(auto)]
 
 use anyhow::anyhow;
 use replays::run_regtrace;

@@ -1,5 +1,5 @@
 -- All the rows, one after another.
-use Rattle.std.proofs.Common.{◌≡◌, ℕ, zero, suc, ◌+◌, ◌<◌, ◌≤◌, Bool, true, false, cond, ◌&&◌, ltb, leb, List, [], ◌∷◌, ◌++◌, length, get_or, take, drop, Some, None, Ok, Err, Option, sym, refl, ap, ◌∙◌, subst, zero-le, add-one, arith, take-append-drop, length-take, drop-cons}
+use Rattle.std.proofs.Common.{◌≡◌, ℕ, suc, ◌+◌, ◌<◌, ◌≤◌, Bool, true, false, cond, List, [], ◌∷◌, ◌++◌, length, get_or, take, drop, Some, None, Ok, Err, Option, sym, refl, ap, ◌∙◌, subst, arith, take-append-drop, length-take, drop-cons}
 use Rattle.std.proofs.lemmas.List.{take_more, take_all}
 use Rattle.std.proofs.lemmas.Bool.{and_from, lt-ltb, le-leb, cond-true}
 use Rattle.keys.specs.Regions.{same_number}
@@ -7,7 +7,7 @@ use Rattle.keys.specs.declared.region.RegionNumber.{RegionNumber}
 use Rattle.promises.specs.declared.answers.Refusal.{Refusal}
 use Rattle.promises.specs.State.{State, slots}
 use Rattle.promises.specs.Lines.{Making, made}
-use Rattle.promises.specs.GreedyDual.{Dual, Region, Outcome as Comes, outcome, kept_outcome, region_of}
+use Rattle.promises.specs.GreedyDual.{Dual, Region, outcome, kept_outcome, region_of}
 use Rattle.traces.specs.declared.outcomes.Counts.{Counts}
 use Rattle.traces.specs.declared.outcomes.Eviction.{Eviction}
 use Rattle.traces.specs.declared.outcomes.Outcome.{Outcome}
@@ -17,7 +17,7 @@ use Rattle.traces.specs.Faults.{cache_fault}
 use Rattle.traces.specs.Outcomes.{no_counts, cost_in, counted, leaving, has_room, takes_row, Tallied}
 use Rattle.traces.proofs.Tallies.{tallied_none, tallied_more, tally_rows}
 use Rattle.replays.specs.Replay.{empty, use_for, is_held, row_after, row_outcome, noted, paying, outcomes, first_fault, accepted}
-use Rattle.replays.specs.Standing.{Worked, Stands, Goes, Sofar, Went, dual_at}
+use Rattle.replays.specs.Standing.{Worked, Stands, Goes, Sofar, dual_at}
 use Rattle.replays.proofs.Rows.{outcomes_more, fine_more, fault_at, accepted_at}
 use Rattle.replays.proofs.Steady.{steady_made, steady_at}
 

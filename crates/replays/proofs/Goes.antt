@@ -1,6 +1,6 @@
 -- A row's calls, as GreedyDual sees them.
-use Rattle.std.proofs.Common.{◌≡◌, ℕ, ◌+◌, ◌*◌, ◌<◌, ◌≤◌, Bool, true, false, cond, not, ◌&&◌, ◌||◌, eqb, ltb, List, [], ◌∷◌, ◌++◌, length, take, drop, is_some, Some, None, Ok, Err, Option, Result, sym, refl, ap, ◌∙◌, subst, ⊎_elim, append-nil, arith, take-append-drop, Bor}
-use Rattle.std.proofs.lemmas.Bool.{cases_Bool, cond-true, cond-false, or_left, le-ltb, ne_eqb, eq-eqb, eqb-true}
+use Rattle.std.proofs.Common.{◌≡◌, ℕ, ◌*◌, ◌≤◌, Bool, true, false, cond, not, ◌&&◌, ◌||◌, eqb, ltb, List, [], ◌∷◌, ◌++◌, length, take, drop, is_some, Some, None, Ok, Err, Option, Result, sym, refl, ap, ◌∙◌, subst, append-nil, arith, take-append-drop, Bor}
+use Rattle.std.proofs.lemmas.Bool.{cond-true, le-ltb, ne_eqb, eq-eqb, eqb-true}
 use Rattle.keys.specs.Homes.{stirred}
 use Rattle.keys.specs.Sameness.{SameLaws}
 use Rattle.keys.specs.Regions.{same_number, number_home}
@@ -11,16 +11,16 @@ use Rattle.promises.specs.declared.answers.Kept.{Kept}
 use Rattle.promises.specs.declared.answers.Kept.TheVariants.{Refreshed, Taken, TakenEvicting}
 use Rattle.promises.specs.declared.answers.Evicted.{Evicted}
 use Rattle.promises.specs.State.{State, slots, held_slot}
-use Rattle.promises.specs.Events.{Event, Part, Effect, gets, keeps, effect}
-use Rattle.promises.specs.Steps.{Step, first_of, bad_cost, long_value, short_slab, out_slot, no_room, every_out, get_fault, keep_fault, written, start}
+use Rattle.promises.specs.Events.{Event, Part, gets, keeps, effect}
+use Rattle.promises.specs.Steps.{Step, first_of, bad_cost, long_value, short_slab, out_slot, no_room, every_out, keep_fault, written, start}
 use Rattle.promises.specs.Lines.{Making, made, Line}
-use Rattle.promises.specs.GreedyDual.{Dual, Region, Outcome as Comes, look, keep, after, outcome, looked, region_of, after_use, dual, use_of, outcome_of_use, answered}
+use Rattle.promises.specs.GreedyDual.{Dual, Outcome as Comes, look, keep, after, outcome, looked, after_use, dual, use_of, outcome_of_use, answered}
 use Rattle.cache.specs.Parts.{part_of, seen}
 use Rattle.promises.proofs.Every.{every_line}
 use Rattle.traces.specs.declared.outcomes.Outcome.{Outcome}
 use Rattle.traces.specs.declared.outcomes.Outcome.TheVariants.{Hit, Taken as TakenIn, Evicting}
 use Rattle.traces.specs.declared.rows.Row.{Row}
-use Rattle.replays.specs.Replay.{empty, is_held, use_for, row_after, row_outcome, noted, paying, row_effect, row_effects, rows_after, row_fault, deeds, deed}
+use Rattle.replays.specs.Replay.{empty, is_held, use_for, row_after, row_outcome, noted, paying, row_effect, row_fault, deeds, deed}
 use Rattle.replays.specs.Standing.{kept_as, Worked, Steady, Stands, Missed, Goes, dual_at}
 use Rattle.replays.proofs.Rows.{after_more, effects_more}
 use Rattle.replays.proofs.Steady.{all_out, steady_at, steady_touched, steady_taken, steady_evicted}

@@ -1,5 +1,5 @@
 -- What a replay owes, from what the rows answered.
-use Rattle.std.proofs.Common.{◌≡◌, ℕ, ◌≤◌, min, List, [], length, Ok, Err, vec_items, Result, sym, refl, ap, ◌∙◌, subst, arith}
+use Rattle.std.proofs.Common.{◌≡◌, ℕ, ◌≤◌, min, List, [], length, Ok, Err, vec_items, Result, sym, refl, ap, subst, arith}
 use Rattle.keys.specs.declared.region.RegionNumber.{RegionNumber}
 use Rattle.promises.specs.State.{State, slots}
 use Rattle.promises.specs.Lines.{Making, made}

@@ -1,5 +1,5 @@
 -- What the program owes, from what its parts answered.
-use Rattle.std.proofs.Common.{◌≡◌, ℕ, ◌+◌, ◌≤◌, min, Bool, true, false, List, [], ◌++◌, length, take, drop, Ok, Err, vec_items, Result, sym, refl, ap, ◌∙◌, subst, inl, inr, append-nil, arith, MatchResult}
+use Rattle.std.proofs.Common.{◌≡◌, ℕ, ◌+◌, ◌≤◌, min, Bool, true, List, [], ◌++◌, length, take, drop, Ok, Err, Result, sym, ap, ◌∙◌, subst, inl, inr, append-nil, arith, MatchResult}
 use lib.Seq.{take-append-le}
 use Rattle.std.proofs.lemmas.List.{drop_all, take_all}
 use Rattle.keys.specs.declared.region.RegionNumber.{RegionNumber}

@@ -1,5 +1,5 @@
 -- What a run of rows comes to with one more row at its end.
-use Rattle.std.proofs.Common.{◌≡◌, ℕ, ◌+◌, Bool, true, false, cond, List, [], ◌∷◌, ◌++◌, length, is_some, Some, None, Option, sym, refl, ap, ◌∙◌, arith}
+use Rattle.std.proofs.Common.{◌≡◌, ℕ, ◌+◌, cond, List, [], ◌∷◌, ◌++◌, length, is_some, Some, None, Option, refl, ap, ◌∙◌, arith}
 use Rattle.keys.specs.declared.region.RegionNumber.{RegionNumber}
 use Rattle.promises.specs.declared.answers.Refusal.{Refusal}
 use Rattle.promises.specs.State.{slots}

@@ -1,11 +1,11 @@
 -- What a row's calls leave as it was: the size, the span, the chunk size, who is admitted, and that no slot is out.
-use Rattle.std.proofs.Common.{◌≡◌, ℕ, zero, suc, Bool, true, false, ◌&&◌, eqb, List, [], ◌∷◌, get_or, set, replicate, Some, None, sym, refl, ap, ◌∙◌, subst, arith, length-set}
+use Rattle.std.proofs.Common.{◌≡◌, ℕ, zero, suc, false, eqb, List, [], ◌∷◌, get_or, set, replicate, Some, None, sym, refl, ◌∙◌, subst, arith, length-set}
 use Rattle.std.proofs.lemmas.Bool.{cond-false, and_left, ne_eqb}
 use Rattle.keys.specs.declared.region.RegionNumber.{RegionNumber}
 use Rattle.promises.specs.declared.records.Lending.TheVariants.{Idle}
 use Rattle.promises.specs.declared.records.Record.{Record}
 use Rattle.promises.specs.declared.records.Table.{Table}
-use Rattle.promises.specs.State.{State, slots, blank, record_at, is_out, out_at}
+use Rattle.promises.specs.State.{State, blank, record_at, is_out, out_at}
 use Rattle.promises.specs.Steps.{every_out, touched, settled, with_key, evicted}
 use Rattle.promises.specs.Lines.{Making, made}
 use Rattle.orders.specs.Meaning.{withdrawn}

@@ -1,6 +1,5 @@
 -- The worked example: five rows over two slots.
 use Rattle.std.specs.Prelude.{◌≡◌, ℕ, List, [], ◌∷◌, ◌++◌, codes}
-use Rattle.keys.specs.declared.region.RegionNumber.{RegionNumber}
 use Rattle.traces.specs.declared.outcomes.Counts.{Counts}
 use Rattle.traces.specs.declared.outcomes.Eviction.{Eviction}
 use Rattle.traces.specs.declared.rows.Row.{Row}

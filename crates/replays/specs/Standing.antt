@@ -1,5 +1,5 @@
 -- A cache on its way through the rows.
-use Rattle.std.specs.Prelude.{◌≡◌, ℕ, ◌*◌, ◌<◌, ◌≤◌, Bool, false, List, [], ◌∷◌, ◌++◌, length, Some, None, Ok, Err, Result, nat_lt}
+use Rattle.std.specs.Prelude.{◌≡◌, ℕ, ◌*◌, ◌<◌, ◌≤◌, false, List, [], ◌∷◌, ◌++◌, length, Some, None, Ok, Err, Result, nat_lt}
 use Rattle.keys.specs.Regions.{same_number}
 use Rattle.keys.specs.declared.region.RegionNumber.{RegionNumber}
 use Rattle.promises.specs.declared.answers.Refusal.{Refusal}

@@ -12,7 +12,7 @@ use Rattle.cache.specs.Leases.{ticket_of, ticketed}
 use Rattle.cache.specs.declared.lease.Lease.{Lease}
 use Rattle.runs.specs.declared.asks.Ask.{Ask}
 use Rattle.runs.specs.declared.asks.Ask.TheVariants.{State as AskState, Get as AskGet, Keep as AskKeep, Lease as AskLease, Write as AskWrite, GiveBack as AskGive, Drop as AskDrop}
-use Rattle.runs.specs.Asks.{Hand, hand, nth, gained, handed_back, MakesWrite, MakesGive, Makes}
+use Rattle.runs.specs.Asks.{Hand, nth, gained, handed_back, MakesWrite, MakesGive, Makes}
 use Rattle.runs.specs.Runs.{Asked, noted}
 use Rattle.runs.proofs.Chains.{note, over_all}
 

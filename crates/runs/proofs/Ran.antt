@@ -1,5 +1,5 @@
 -- A whole run keeps its promise.
-use Rattle.std.proofs.Common.{◌≡◌, ℕ, ◌+◌, Bool, List, [], ◌++◌, map, length, replicate, sym, refl, ap, ◌∙◌, subst, append_assoc, append-nil, arith}
+use Rattle.std.proofs.Common.{◌≡◌, ℕ, Bool, List, [], ◌++◌, map, length, replicate, sym, refl, ap, ◌∙◌, subst, append_assoc, append-nil, arith}
 use Rattle.orders.specs.declared.Order.{Ghosts as OfOrder}
 use Rattle.directories.specs.declared.directory.Directory.{Ghosts as OfDirectory}
 use Rattle.promises.specs.State.{State}

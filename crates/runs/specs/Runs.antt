@@ -19,7 +19,7 @@ use Rattle.runs.specs.declared.asks.Ask.TheVariants.{GiveBack as AskGive}
 use Rattle.runs.specs.declared.asks.Happening.{Happening}
 use Rattle.runs.specs.declared.whole.NoRoom.{NoRoom}
 use Rattle.runs.specs.declared.whole.Finished.{Finished}
-use Rattle.runs.specs.Asks.{Hand, hand, Makes, Leads, shown}
+use Rattle.runs.specs.Asks.{Hand, Makes, Leads, shown}
 
 -- one call for each ask, or none, each with what the one before left in hand
 abbrev pub Asked : {K : Type 0} → Hand → List (Ask K) → List (Option (Event K)) → Hand → Type 0

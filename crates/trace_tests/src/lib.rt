@@ -1,4 +1,6 @@
 //! The figures of the trace format, as tests of the reader and the writer. Depends on `keys` and `traces`.
+#![tactic(auto)]
+
 #[cfg(test)]
 mod tests {
     use keys::RegionNumber;

@@ -1,5 +1,5 @@
 -- What is written reads back.
-use Rattle.std.proofs.Common.{◌≡◌, ℕ, suc, ◌+◌, ◌^◌, ◌<◌, ◌≤◌, Bool, true, false, cond, eqb, ltb, List, [], ◌∷◌, ◌++◌, map, length, get_or, take, drop, sym, refl, ap, ◌∙◌, subst, ⊎_elim, append_assoc, arith}
+use Rattle.std.proofs.Common.{◌≡◌, ℕ, ◌+◌, ◌^◌, ◌<◌, ◌≤◌, List, [], ◌∷◌, ◌++◌, map, length, take, drop, sym, refl, ap, ◌∙◌, subst, ⊎_elim, append_assoc, arith}
 use Rattle.std.specs.List.{flat_map, AllByRecursion as All}
 use Rattle.std.specs.Str.Parse.{digits_value}
 use Rattle.std.specs.Char.{digit_value}
@@ -16,7 +16,7 @@ use Rattle.traces.specs.declared.rows.Row.{Row}
 use Rattle.traces.specs.Forms.{Digit, Fits, radix_of, most_of, low_of, high_of}
 use Rattle.traces.specs.Layout.{row_of, title, names_of}
 use Rattle.traces.specs.Tables.{glyph_of, numeral_of, placed}
-use Rattle.traces.specs.Rendering.{row_text, rows_text, head_text, trace_text, cost_at, Fit}
+use Rattle.traces.specs.Rendering.{row_text, rows_text, head_text, trace_text, Fit}
 use Rattle.traces.specs.Words.{Pair, pair_text, Says, ReadsBack, Written}
 use Rattle.traces.proofs.Laid.{PairsAre, Laid, laid_says}
 use Rattle.traces.proofs.Words.{radix_most}

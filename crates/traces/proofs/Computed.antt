@@ -5,7 +5,6 @@ use Rattle.traces.specs.Example.{ExampleReads, ExamplePrints}
 use Rattle.traces.specs.Forms.{reading}
 use Rattle.traces.specs.Reports.{run_text}
 use Rattle.traces.specs.Tables.{numeral_of}
-use Rattle.traces.specs.Words.{Pair}
 
 pub example_prints : ExamplePrints
 unfolding run_text numeral_of

@@ -1,5 +1,5 @@
 -- A text keeps a trace, or has a least fault.
-use Rattle.std.proofs.Common.{◌≡◌, ℕ, ◌+◌, ◌<◌, ◌≤◌, Bool, true, false, ◌⊎◌, List, [], ◌∷◌, length, sym, refl, ap, ◌∙◌, subst, inl, inr, ⊎_elim, arith, rules}
+use Rattle.std.proofs.Common.{◌≡◌, ℕ, ◌+◌, ◌<◌, ◌≤◌, ◌⊎◌, List, [], ◌∷◌, length, refl, inl, inr, ⊎_elim, arith, rules}
 use Rattle.std.specs.Str.Parse.{digits_value}
 use Rattle.std.specs.Char.{digit_value}
 use Rattle.std.specs.List.{AllByRecursion as All}
@@ -12,14 +12,14 @@ use Rattle.traces.specs.declared.table.ColumnOrder.{ColumnOrder}
 use Rattle.traces.specs.declared.table.ColumnOrder.TheVariants.{KeyCost, CostKey}
 use Rattle.traces.specs.declared.faults.Fault.{Fault}
 use Rattle.traces.specs.declared.rows.Row.{Row}
-use Rattle.traces.specs.Cut.{Line, line_of, cut, upto, Sound}
+use Rattle.traces.specs.Cut.{Line, cut, upto, Sound}
 use Rattle.traces.specs.Forms.{Digit, Fits, radix_of, most_of, low_of, high_of}
-use Rattle.traces.specs.Faults.{fault_of, line_fault, names_fault, shape_fault, value_fault, rows_fault, room_fault, Before, Least}
-use Rattle.traces.specs.Layout.{title, names_of, first_of, second_of, row_by, One, Two, left, right, Ails, Wrong, Holds, Rows, First, Titles, GivesSlots, Names, Faulty, Keeps}
-use Rattle.traces.specs.Layout.Ails.{unsound, untitled, unnamed, not_one, not_two, bad_slots, bad_first, bad_second, past}
+use Rattle.traces.specs.Faults.{line_fault, names_fault, shape_fault, value_fault, rows_fault, Least}
+use Rattle.traces.specs.Layout.{title, names_of, first_of, second_of, One, Two, left, right, Ails, Wrong, Holds, Rows, First, Titles, GivesSlots, Names, Faulty, Keeps}
+use Rattle.traces.specs.Layout.Ails.{untitled, unnamed, not_one, not_two, bad_slots, bad_first, bad_second, past}
 use Rattle.traces.specs.Words.{SaidOrFaulty}
 use Rattle.traces.proofs.Said.{kept_is_said}
-use Rattle.traces.proofs.Faulty.{least_here, least_later, least_unsound, least_begins, holds_none, least_title, least_one, least_slots, least_names}
+use Rattle.traces.proofs.Faulty.{least_here, least_later, least_unsound, least_begins, holds_none}
 use Rattle.traces.proofs.Whole.{whole, fault_in_one, fault_in_two, fault_in_three, fault_in_rows}
 
 abbrev Told : Type 0 → Type 0

@@ -1,12 +1,11 @@
 -- A text is kept just where it has no fault, and keeps one trace.
-use Rattle.std.proofs.Common.{◌≡◌, ℕ, ◌+◌, ◌<◌, ◌≤◌, ◌⊎◌, List, [], ◌∷◌, sym, refl, ap, ◌∙◌, subst, inl, inr, ⊎_elim, arith}
+use Rattle.std.proofs.Common.{◌≡◌, ℕ, ◌+◌, ◌<◌, List, [], ◌∷◌, sym, refl, ap, ◌∙◌, subst, ⊎_elim, arith}
 use Rattle.std.specs.Str.Parse.{digits_value}
 use Rattle.traces.specs.declared.table.ColumnOrder.{ColumnOrder}
-use Rattle.traces.specs.declared.table.ColumnOrder.TheVariants.{KeyCost, CostKey}
 use Rattle.traces.specs.declared.faults.Fault.{Fault}
 use Rattle.traces.specs.declared.rows.Row.{Row}
 use Rattle.traces.specs.Cut.{Line, cut}
-use Rattle.traces.specs.Layout.{names_of, Ails, Wrong, Faulty, Holds, Rows, Names, Keeps, order_named, order_among}
+use Rattle.traces.specs.Layout.{Wrong, Faulty, Rows, Keeps, order_named, order_among}
 use Rattle.traces.specs.Words.{SaidIsSound, SaidOnce}
 use Rattle.traces.proofs.Faulty.{holds_none, titles_none, counts_none, names_none}
 use Rattle.traces.proofs.Whole.{order_in}

@@ -1,13 +1,13 @@
 -- The least fault of a line, and of the lines from one on.
-use Rattle.std.proofs.Common.{◌≡◌, ℕ, suc, ◌+◌, ◌<◌, ◌≤◌, Bool, true, false, ◌⊎◌, List, [], ◌∷◌, ◌++◌, length, sym, refl, ap, ◌∙◌, subst, inl, inr, ⊎_elim, arith, rules}
+use Rattle.std.proofs.Common.{◌≡◌, ℕ, ◌+◌, ◌<◌, ◌≤◌, true, ◌⊎◌, List, [], ◌∷◌, length, refl, ap, inl, inr, ⊎_elim, arith, rules}
 use Rattle.traces.specs.declared.values.Column.TheVariants.{Slots}
 use Rattle.traces.specs.declared.table.ColumnOrder.{ColumnOrder}
 use Rattle.traces.specs.declared.faults.Fault.{Fault}
 use Rattle.traces.specs.declared.rows.Row.{Row}
 use Rattle.traces.specs.Cut.{Line, line_of, Sound, Begins}
 use Rattle.traces.specs.Forms.{Fits}
-use Rattle.traces.specs.Faults.{fault_of, line_fault, names_fault, shape_fault, value_fault, rows_fault, room_fault, Before, Least}
-use Rattle.traces.specs.Layout.{title, names_of, first_of, second_of, One, Two, left, right, Ails, Wrong, Holds, Titles, GivesSlots, Names}
+use Rattle.traces.specs.Faults.{line_fault, names_fault, shape_fault, value_fault, Least}
+use Rattle.traces.specs.Layout.{title, names_of, One, Ails, Wrong, Holds, Titles, GivesSlots, Names}
 use Rattle.traces.specs.Layout.Ails.{unsound, untitled, unnamed, not_one, not_two, bad_slots, bad_first, bad_second, past}
 
 -- a line's faults are at that line, and those of later lines are not before it

@@ -1,9 +1,8 @@
 -- The first fault of what is to be written.
-use Rattle.std.proofs.Common.{◌≡◌, ℕ, ◌+◌, ◌<◌, ◌≤◌, ◌⊎◌, List, length, sym, refl, ap, ◌∙◌, subst, inl, inr, ⊎_elim, arith}
+use Rattle.std.proofs.Common.{◌≡◌, ℕ, ◌+◌, ◌<◌, ◌≤◌, ◌⊎◌, List, length, refl, ap, inl, inr, ⊎_elim, arith}
 use Rattle.std.proofs.lemmas.Bool.{cases_order}
-use Rattle.traces.specs.declared.faults.Fault.{Fault}
 use Rattle.traces.specs.declared.rows.Row.{Row}
-use Rattle.traces.specs.Faults.{fault_of, line_fault, names_fault, shape_fault, value_fault, rows_fault, room_fault, precedence, Before, Least}
+use Rattle.traces.specs.Faults.{fault_of, value_fault, rows_fault, precedence, Before, Least}
 use Rattle.traces.specs.declared.faults.FaultKind.{FaultKind}
 use Rattle.traces.specs.declared.faults.FaultKind.TheVariants.{Value, Rows}
 use Rattle.traces.specs.Tables.{numeral_of}

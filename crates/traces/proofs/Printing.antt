@@ -5,11 +5,10 @@ use Rattle.std.proofs.lemmas.List.{length-append}
 use Rattle.traces.specs.declared.faults.Fault.{Fault}
 use Rattle.traces.specs.declared.outcomes.Counts.{Counts}
 use Rattle.traces.specs.declared.outcomes.Eviction.{Eviction}
-use Rattle.traces.specs.declared.faults.Layer.{Layer}
 use Rattle.traces.specs.declared.report.Report.{Report}
 use Rattle.traces.specs.declared.text.Cell.{Cell}
-use Rattle.traces.specs.declared.text.Cell.TheVariants.{Decimal, Name}
-use Rattle.traces.specs.Faults.{number_of, layer_of}
+use Rattle.traces.specs.declared.text.Cell.TheVariants.{Decimal}
+use Rattle.traces.specs.Faults.{number_of}
 use Rattle.traces.specs.Tables.{line_text, cells_text, table_text, placed}
 use Rattle.traces.specs.Reports.{count_names, count_values, counts_cells, eviction_names, eviction_values, run_text, report_text, run_head, eviction_text, evictions_text, fault_names, fault_values, fault_text, fault_rest}
 use Rattle.traces.proofs.Writing.{put_more}

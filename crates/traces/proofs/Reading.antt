@@ -1,10 +1,10 @@
 -- What a turn over the rows keeps.
-use Rattle.std.proofs.Common.{◌≡◌, ℕ, ◌+◌, ◌<◌, ◌≤◌, List, [], ◌∷◌, ◌++◌, length, Ok, Err, Result, sym, refl, ap, ◌∙◌, subst, append_assoc, append-nil, arith}
+use Rattle.std.proofs.Common.{◌≡◌, ℕ, ◌+◌, ◌<◌, ◌≤◌, List, [], ◌∷◌, ◌++◌, length, Ok, Err, Result, sym, refl, ap, subst, append_assoc, append-nil, arith}
 use Rattle.traces.specs.declared.table.ColumnOrder.{ColumnOrder}
 use Rattle.traces.specs.declared.faults.Fault.{Fault}
 use Rattle.traces.specs.declared.rows.Row.{Row}
 use Rattle.traces.specs.Cut.{Line, cut}
-use Rattle.traces.specs.Faults.{fault_of, line_fault, names_fault, shape_fault, value_fault, rows_fault, room_fault, Before, Least}
+use Rattle.traces.specs.Faults.{Least}
 use Rattle.traces.specs.Layout.{Wrong, Holds, Rows, Next}
 use Rattle.traces.proofs.Faulty.{least_later, holds_none}
 

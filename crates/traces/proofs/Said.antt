@@ -1,13 +1,13 @@
 -- From the lines back to the layout's bytes.
-use Rattle.std.proofs.Common.{◌≡◌, ℕ, suc, ◌+◌, ◌<◌, ◌≤◌, Bool, true, false, cond, eqb, List, [], ◌∷◌, ◌++◌, map, length, take, drop, sym, refl, ap, ◌∙◌, subst, ⊎_elim, append_assoc, arith}
+use Rattle.std.proofs.Common.{◌≡◌, ℕ, suc, ◌+◌, ◌<◌, ◌≤◌, true, false, cond, eqb, List, [], ◌∷◌, ◌++◌, map, length, take, drop, sym, refl, ap, ◌∙◌, ⊎_elim, append_assoc, arith}
 use Rattle.std.specs.List.{flat_map}
 use Rattle.std.proofs.lemmas.List.{length-drop}
 use Rattle.std.proofs.lemmas.Bool.{cases_Bool, eqb-true}
 use Rattle.traces.specs.declared.table.ColumnOrder.{ColumnOrder}
 use Rattle.traces.specs.declared.rows.Row.{Row}
 use Rattle.traces.specs.Cut.{Line, line_of, before, cut, upto}
-use Rattle.traces.specs.Layout.{title, names_of, Two, left, right, Holds, Rows, Keeps}
-use Rattle.traces.specs.Words.{Pair, pair_text, Says, KeptIsSaid}
+use Rattle.traces.specs.Layout.{title, names_of, Two, left, right, Rows, Keeps}
+use Rattle.traces.specs.Words.{Pair, pair_text, KeptIsSaid}
 use Rattle.traces.proofs.Laid.{PairsAre, Laid, laid_says}
 
 -- the bytes of a line

@@ -1,5 +1,5 @@
 -- The tally of a run, row by row.
-use Rattle.std.proofs.Common.{◌≡◌, ℕ, ◌+◌, List, [], ◌∷◌, ◌++◌, length, sym, refl, ap, ◌∙◌, append_assoc, append-nil, add_assoc, arith}
+use Rattle.std.proofs.Common.{◌≡◌, ℕ, ◌+◌, List, [], ◌∷◌, ◌++◌, length, sym, refl, ap, ◌∙◌, append_assoc, append-nil, arith}
 use Rattle.traces.specs.declared.outcomes.Counts.{Counts}
 use Rattle.traces.specs.declared.outcomes.Eviction.{Eviction}
 use Rattle.traces.specs.declared.outcomes.Outcome.{Outcome}

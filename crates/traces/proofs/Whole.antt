@@ -1,5 +1,5 @@
 -- The whole text, from its parts.
-use Rattle.std.proofs.Common.{◌≡◌, ℕ, ◌+◌, List, [], ◌∷◌, sym, refl, ap, ◌∙◌, subst}
+use Rattle.std.proofs.Common.{◌≡◌, ℕ, List, ◌∷◌, sym, ap, ◌∙◌, subst}
 use Rattle.traces.specs.declared.table.ColumnOrder.{ColumnOrder}
 use Rattle.traces.specs.declared.table.ColumnOrder.TheVariants.{KeyCost, CostKey}
 use Rattle.traces.specs.declared.faults.Fault.{Fault}
@@ -7,7 +7,7 @@ use Rattle.traces.specs.declared.rows.Row.{Row}
 use Rattle.traces.specs.declared.faults.ReadError.{ReadError}
 use Rattle.traces.specs.declared.faults.ReadError.TheVariants.{Found, Memory}
 use Rattle.traces.specs.Cut.{Line, cut}
-use Rattle.traces.specs.Faults.{fault_of, line_fault, names_fault, shape_fault, value_fault, rows_fault, room_fault, Before, Least}
+use Rattle.traces.specs.Faults.{Least}
 use Rattle.traces.specs.Layout.{names_of, Wrong, Rows, First, Titles, GivesSlots, Names, order_named, order_among, Faulty, Keeps, IfFound, Heads}
 use Rattle.traces.specs.Words.{Says, Said, ReadFails}
 use Rattle.traces.proofs.Said.{kept_is_said}

@@ -1,5 +1,5 @@
 -- From the layout's bytes to its lines.
-use Rattle.std.proofs.Common.{◌≡◌, ℕ, suc, ◌+◌, ◌<◌, ◌≤◌, Bool, true, false, cond, eqb, List, [], ◌∷◌, ◌++◌, length, take, drop, sym, refl, ap, ◌∙◌, subst, append_assoc, arith, rules}
+use Rattle.std.proofs.Common.{◌≡◌, ℕ, suc, ◌+◌, ◌≤◌, true, eqb, List, [], ◌∷◌, ◌++◌, length, drop, sym, refl, ap, ◌∙◌, subst, append_assoc, arith, rules}
 use Rattle.std.specs.List.{flat_map, AllByRecursion as All}
 use Rattle.std.specs.Str.Parse.{digits_value}
 use Rattle.std.specs.Char.{digit_value}
@@ -11,10 +11,10 @@ use Rattle.traces.specs.declared.values.Column.TheVariants.{Slots, Key, Cost}
 use Rattle.traces.specs.declared.table.ColumnOrder.{ColumnOrder}
 use Rattle.traces.specs.declared.table.ColumnOrder.TheVariants.{KeyCost, CostKey}
 use Rattle.traces.specs.declared.rows.Row.{Row}
-use Rattle.traces.specs.Cut.{Line, line_of, before, cut, upto}
+use Rattle.traces.specs.Cut.{line_of, before, cut, upto}
 use Rattle.traces.specs.Forms.{Digit, Fits, radix_of, most_of}
 use Rattle.traces.specs.Layout.{title, names_of, first_of, second_of, row_by, One, left, right, Holds, Rows, Keeps}
-use Rattle.traces.specs.Words.{Pair, pair_text, Says, SaidIsKept}
+use Rattle.traces.specs.Words.{Pair, pair_text, SaidIsKept}
 use Rattle.traces.proofs.Laid.{PairsAre, Laid, says_laid}
 
 -- no byte of the text is b

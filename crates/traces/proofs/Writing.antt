@@ -1,13 +1,13 @@
 -- What one write after another leaves.
-use Rattle.std.proofs.Common.{◌≡◌, ℕ, zero, suc, ◌+◌, ◌-◌, ◌*◌, ◌/◌, ◌%◌, ◌^◌, ◌<◌, ◌≤◌, Bool, true, false, cond, eqb, ltb, List, [], ◌∷◌, ◌++◌, map, length, get_or, take, drop, set, codes, sym, refl, ap, ◌∙◌, subst, ⊎_elim, append_assoc, append-nil, add-zero, add_assoc, mod-lt, mod-eq_of_lt, div-add-mod', add-one, arith}
+use Rattle.std.proofs.Common.{◌≡◌, ℕ, zero, suc, ◌+◌, ◌-◌, ◌*◌, ◌/◌, ◌%◌, ◌^◌, ◌<◌, ◌≤◌, eqb, List, [], ◌∷◌, ◌++◌, map, length, get_or, take, drop, set, codes, sym, refl, ap, ◌∙◌, ⊎_elim, append_assoc, append-nil, add-zero, add_assoc, mod-lt, mod-eq_of_lt, div-add-mod', add-one, arith}
 use native.Mathlib.Nat.{div-eq_of_lt, div-lt_self}
 use borrow.Rule.Slice.PartMut.{put_mid}
 use Rattle.std.specs.Int.Digits.{digits_of}
 use Rattle.std.proofs.lemmas.Int.Digits.{digits_of_step, length-digits_of-le}
 use Rattle.std.proofs.lemmas.List.{length-append, length-take-le, length-drop, take_at, drop_at, drop-drop, set_split, map_push, length-map, take-append-drop, length_push, take_more, flat_map_more}
-use Rattle.std.proofs.lemmas.Bool.{cond-true, cond-false, eq-eqb, ne_eqb, cases_eq}
+use Rattle.std.proofs.lemmas.Bool.{cond-false, ne_eqb, cases_eq}
 use Rattle.traces.specs.declared.rows.Row.{Row}
-use Rattle.traces.specs.Tables.{glyph_of, numeral_of, cell_text, values_text, line_text, cells_text, spaced, spaced_text, table_text, placed}
+use Rattle.traces.specs.Tables.{glyph_of, numeral_of, cell_text, line_text, cells_text, spaced_text, table_text, placed}
 use Rattle.traces.specs.declared.text.Cell.{Cell}
 use Rattle.traces.specs.declared.text.Cell.TheVariants.{Decimal}
 use Rattle.traces.specs.Rendering.{row_text, rows_text, row_values, head_text, trace_text}

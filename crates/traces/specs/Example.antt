@@ -1,5 +1,5 @@
 -- The example of the documentation: its text, its rows, the outcome of each row, and its report.
-use Rattle.std.specs.Prelude.{◌≡◌, ℕ, List, [], ◌∷◌, ◌++◌, codes}
+use Rattle.std.specs.Prelude.{◌≡◌, List, [], ◌∷◌, codes}
 use Rattle.traces.specs.declared.outcomes.Outcome.{Outcome}
 use Rattle.traces.specs.declared.outcomes.Outcome.TheVariants.{Hit, Taken, Evicting}
 use Rattle.traces.specs.declared.rows.Row.{Row}

@@ -1,6 +1,8 @@
 //! Traces of wanted regions: an exact reader and writer of the text that keeps one, the report of a run over it, and
 //! the tables in which report and faults are printed. Depends on `keys`, and on `promises` for
 //! the refusals of a cache.
+#![tactic(auto)]
+
 mod faults;
 mod lines;
 mod outcomes;

@@ -1,6 +1,8 @@
 //! Two workers repair a mesh over a cache of two regions, and the program prints what they did: a lease, a collapse that fails, its
 //! cleanup path, an eviction and the second worker, in the order in which a region could be freed while it is held. It depends on
 //! `workers` and on the parts that the cache is made of, and holds nothing but `main`.
+#![tactic(auto)]
+
 use cache::Cache;
 use directories::{Cell, HashedDirectory};
 use orders::new_pile;

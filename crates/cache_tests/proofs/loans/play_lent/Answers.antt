@@ -1,5 +1,4 @@
 use Rattle.std.proofs.Common.{◌∙◌}
-use Rattle.cache.specs.Leases.{ticket_of}
 use Rattle.borrowers.proofs.Loans.{refused_keeps, loan_keeps}
 use Rattle.cache_tests.proofs.loans.play_lent.Goals as goal
 

@@ -1,4 +1,4 @@
-use Rattle.std.proofs.Common.{◌≡◌, ℕ, ◌-◌, ◌<◌, ◌≤◌, true, false}
+use Rattle.std.proofs.Common.{◌≡◌, ◌-◌, ◌<◌, true}
 use Rattle.directories.specs.Cells.{keys_of}
 use Rattle.directories.specs.Links.{in_bucket, Last, Below}
 use Rattle.directories.proofs.cells.before.Given as goal

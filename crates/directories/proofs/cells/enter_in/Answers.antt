@@ -1,4 +1,4 @@
-use Rattle.std.proofs.Common.{◌-◌, ◌<◌, refl, arith}
+use Rattle.std.proofs.Common.{◌<◌, refl, arith}
 use Rattle.directories.specs.Cells.{keys_of, frees_of}
 use Rattle.directories.proofs.Sounds.{popped}
 use Rattle.directories.proofs.Entries.{long, enter_full, enter_there, enter_sound, enter_means}

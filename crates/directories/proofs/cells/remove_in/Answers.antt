@@ -1,5 +1,4 @@
-use Rattle.std.proofs.Common.{◌-◌, ◌<◌, is_some, Some, None, refl, ap, ◌∙◌, arith}
-use Rattle.directories.specs.Cells.{keys_of, frees_of}
+use Rattle.std.proofs.Common.{◌<◌, is_some, Some, None, refl, ap, ◌∙◌, arith}
 use Rattle.directories.proofs.Entries.{room, remove_sound, find_means, remove_means, stay_means}
 use Rattle.directories.proofs.cells.remove_in.Goals as goal
 

@@ -1,4 +1,4 @@
-use Rattle.std.proofs.Common.{◌%◌, ◌<◌, ◌≤◌, sym, ap, mod-lt, arith, rules}
+use Rattle.std.proofs.Common.{◌%◌, ◌<◌, sym, ap, arith, rules}
 use Rattle.directories.specs.Cells.{keys_of, heads_of, nexts_of}
 use Rattle.directories.proofs.Search.{seek_start, seek_next, seek_on}
 use Rattle.directories.proofs.cells.search.Goals as goal

@@ -1,4 +1,4 @@
-use Rattle.std.proofs.Common.{◌≡◌, ℕ, ◌<◌, get_or, None}
+use Rattle.std.proofs.Common.{◌≡◌, ℕ, ◌<◌, get_or}
 use Rattle.directories.proofs.numbered.clear_slots.Given as goal
 
 abbrev pub invariant-loop-x : goal.invariant-loop-x

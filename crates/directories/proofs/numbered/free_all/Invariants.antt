@@ -1,4 +1,4 @@
-use Rattle.std.proofs.Common.{◌≡◌, ℕ, ◌<◌, get_or, None}
+use Rattle.std.proofs.Common.{◌≡◌, ℕ, ◌<◌, get_or}
 use Rattle.directories.proofs.numbered.free_all.Given as goal
 
 abbrev pub invariant-loop-i : goal.invariant-loop-i

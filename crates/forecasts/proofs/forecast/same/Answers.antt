@@ -1,4 +1,4 @@
-use Rattle.std.proofs.Common.{◌≡◌, ℕ, Bool, true, Decides, ◌==◌, refl, subst, ap₂}
+use Rattle.std.proofs.Common.{◌≡◌, ℕ, true, Decides, ◌==◌, refl, subst, ap₂}
 use Rattle.std.proofs.lemmas.Bool.{eq-eqb, eqb-true, and_parts, and_from}
 use Rattle.std.proofs.lemmas.Slice.Eq.{slice_eq-Decides}
 use Rattle.orders.specs.declared.Expelled.{Expelled}

@@ -1,5 +1,5 @@
-use Rattle.std.proofs.Common.{◌≡◌, ℕ, suc, ◌+◌, length, vec_items, vec_len, vec_capacity, ap, ◌∙◌, arith}
-use Rattle.orders.specs.Meaning.{OrderMeaning, rest, emptied}
+use Rattle.std.proofs.Common.{length, vec_items, ap, ◌∙◌, arith}
+use Rattle.orders.specs.Meaning.{OrderMeaning, emptied}
 use Rattle.forecasts.proofs.Leavings.{one_less, drain_more}
 use Rattle.forecasts.proofs.leaving.drain.Goals as goal
 

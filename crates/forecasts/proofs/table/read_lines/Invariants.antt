@@ -1,4 +1,4 @@
-use Rattle.std.proofs.Common.{◌≡◌, ◌*◌, ◌≤◌, [], length, take, drop, vec_items, vec_len, vec_capacity}
+use Rattle.std.proofs.Common.{◌≡◌, ◌*◌, ◌≤◌, [], drop, vec_items, vec_len, vec_capacity}
 use Rattle.std.specs.List.{between}
 use Rattle.forecasts.specs.Table.{rows_from}
 use Rattle.forecasts.proofs.table.read_lines.Given as goal

@@ -1,4 +1,4 @@
-use Rattle.std.proofs.Common.{sym, refl, ap, ◌∙◌}
+use Rattle.std.proofs.Common.{sym, refl, ap}
 use Rattle.std.specs.Option.{option_map}
 use Rattle.forecasts.specs.Table.{capped_row, two_values}
 use Rattle.forecasts.proofs.Tables.{halves_none, halves_at, values_are}

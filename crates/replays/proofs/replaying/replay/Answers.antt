@@ -1,4 +1,4 @@
-use Rattle.std.proofs.Common.{◌≡◌, List, subst}
+use Rattle.std.proofs.Common.{List, subst}
 use Rattle.traces.specs.declared.rows.Row.{Row}
 use Rattle.cache.specs.Whole.{state_of, making}
 use Rattle.replays.specs.Replayed.{Replays}

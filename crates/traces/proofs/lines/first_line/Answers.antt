@@ -1,4 +1,4 @@
-use Rattle.std.proofs.Common.{◌≡◌, length, take, drop, refl, inl, inr, ⊎_elim, arith}
+use Rattle.std.proofs.Common.{refl, inl, inr, ⊎_elim, arith}
 use native.Mathlib.Nat.{sub-zero}
 use Rattle.std.proofs.lemmas.List.{take_rest, length-drop, length-take-le}
 use Rattle.traces.proofs.Cuts.{first_whole, first_unsound}

@@ -1,4 +1,4 @@
-use Rattle.std.proofs.Common.{◌≡◌, length, ap, arith}
+use Rattle.std.proofs.Common.{length, ap, arith}
 use Rattle.traces.proofs.Printing.{length_fault, fault_cells}
 use Rattle.traces.proofs.printer.fault_len.Goals as goal
 

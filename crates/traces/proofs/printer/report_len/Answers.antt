@@ -1,4 +1,4 @@
-use Rattle.std.proofs.Common.{◌≡◌, length, ap, arith}
+use Rattle.std.proofs.Common.{length, ap, arith}
 use Rattle.traces.proofs.Printing.{length_run, report_is}
 use Rattle.traces.proofs.printer.report_len.Goals as goal
 

@@ -1,4 +1,4 @@
-use Rattle.std.proofs.Common.{◌≡◌, length, refl, ap, ◌∙◌, arith}
+use Rattle.std.proofs.Common.{length, refl, ap, ◌∙◌, arith}
 use Rattle.traces.specs.Tables.{placed}
 use Rattle.traces.proofs.Printing.{length_run, put_run, report_is}
 use Rattle.traces.proofs.printer.write_report.Goals as goal

@@ -1,7 +1,7 @@
-use Rattle.std.proofs.Common.{◌≡◌, vec_items, sym, ap, subst}
+use Rattle.std.proofs.Common.{sym, ap, subst}
 use Rattle.std.proofs.lemmas.Result.{err_from_is_err_and}
 use Rattle.traces.specs.Words.{Says}
-use Rattle.traces.specs.Traces.{slots_in, rows_in}
+use Rattle.traces.specs.Traces.{rows_in}
 use Rattle.traces.proofs.Ranges.{said_fits}
 use Rattle.traces.proofs.Whole.{whole_rows, read_fails}
 use Rattle.traces.proofs.reader.read_trace.Goals as goal

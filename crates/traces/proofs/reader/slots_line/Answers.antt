@@ -1,6 +1,6 @@
 use Rattle.std.proofs.Common.{inl, arith}
 use Rattle.std.proofs.lemmas.Result.{err_from_is_err_and}
-use Rattle.traces.proofs.Faulty.{least_at, least_line, least_title, least_one, least_slots, least_names}
+use Rattle.traces.proofs.Faulty.{least_at, least_line, least_one, least_slots}
 use Rattle.std.proofs.lemmas.Bool.{both_ways}
 use Rattle.traces.proofs.reader.slots_line.Goals as goal
 

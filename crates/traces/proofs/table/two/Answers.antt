@@ -1,7 +1,7 @@
-use Rattle.std.proofs.Common.{◌≡◌, suc, ◌-◌, ◌≤◌, Bool, true, false, length, take, drop, sym, refl, ap, ◌∙◌, subst, arith}
+use Rattle.std.proofs.Common.{suc, length, drop, sym, refl, ap, subst, arith}
 use Rattle.std.proofs.lemmas.List.{length-drop, length-take-le}
 use Rattle.std.proofs.lemmas.Bool.{both_ways}
-use Rattle.traces.specs.Layout.{One, left, right}
+use Rattle.traces.specs.Layout.{One}
 use Rattle.traces.proofs.Cuts.{left_is, right_is, upto_le}
 use Rattle.traces.proofs.table.two.Goals as goal
 use Rattle.traces.proofs.table.two.Goals.{then-not-is_one-via-then-not-is_one, then-not-is_one-via-else-not-is_one+then-not-is_one-2}

@@ -1,4 +1,4 @@
-use Rattle.std.proofs.Common.{◌/◌, ◌^◌, ◌<◌, ◌≤◌, length, sym, ap, arith}
+use Rattle.std.proofs.Common.{◌≤◌, length, sym, ap, arith}
 use native.Mathlib.Nat.{pow-le-pow_left}
 use Rattle.traces.specs.Tables.{numeral_of}
 use Rattle.traces.proofs.Writing.{numeral_small, length_numeral_step, numeral_len, div_less}

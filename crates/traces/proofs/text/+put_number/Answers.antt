@@ -1,5 +1,5 @@
-use Rattle.std.proofs.Common.{◌/◌, ◌%◌, [], ◌∷◌, ◌++◌, length, sym, ap, ◌∙◌, arith}
-use Rattle.traces.specs.Tables.{glyph_of, numeral_of, placed}
+use Rattle.std.proofs.Common.{◌/◌, [], ◌∷◌, ◌++◌, length, sym, ap, ◌∙◌, arith}
+use Rattle.traces.specs.Tables.{numeral_of, placed}
 use Rattle.traces.proofs.Writing.{numeral_small, numeral_step, length_numeral_step, div_less, placed_byte, put_last, put_length}
 use Rattle.traces.proofs.text.+put_number.Goals as goal
 

@@ -1,8 +1,8 @@
-use Rattle.std.proofs.Common.{◌≡◌, ◌+◌, [], ◌∷◌, ◌++◌, length, get_or, take, sym, refl, ap, ◌∙◌, arith}
+use Rattle.std.proofs.Common.{◌+◌, [], ◌∷◌, length, get_or, take, sym, refl, ap, ◌∙◌, arith}
 use Rattle.std.proofs.lemmas.List.{take_all}
 use Rattle.traces.specs.Tables.{cell_text, spaced, spaced_text, placed}
 use Rattle.traces.specs.declared.text.Cell.TheVariants.{Decimal}
-use Rattle.traces.proofs.Writing.{joined_step, length_joined_step, joined_front, put_more, put_two, put_length, placed_none}
+use Rattle.traces.proofs.Writing.{joined_step, length_joined_step, joined_front, put_two, placed_none}
 use Rattle.traces.proofs.text.put_spaced.Goals as goal
 
 pub loop-cell-init : goal.loop-cell-init

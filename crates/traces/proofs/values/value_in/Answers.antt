@@ -1,4 +1,4 @@
-use Rattle.std.proofs.Common.{◌≡◌, Some, sym, refl, ap, ◌∙◌, rules}
+use Rattle.std.proofs.Common.{◌≡◌, Some, sym, ap, ◌∙◌, rules}
 use Rattle.std.specs.Str.Parse.{digits_value}
 use Rattle.traces.specs.Forms.{Fits, radix_of}
 use Rattle.traces.proofs.Laid.{fits_reading, unfit_reading}

@@ -1,4 +1,4 @@
-use Rattle.std.proofs.Common.{ℕ, ◌^◌, ◌<◌, ◌≤◌, length}
+use Rattle.std.proofs.Common.{ℕ, ◌^◌, ◌<◌, ◌≤◌}
 use Rattle.traces.specs.Rendering.{cost_at, key_at}
 use Rattle.traces.proofs.writer.check_fit.Given as goal
 

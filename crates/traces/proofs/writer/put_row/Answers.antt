@@ -1,4 +1,3 @@
-use Rattle.std.proofs.Common.{rules}
 use Rattle.traces.specs.Rendering.{row_text}
 use Rattle.traces.proofs.writer.put_row.Goals as goal
 

@@ -1,6 +1,6 @@
 use Rattle.std.proofs.Common.{◌∙◌}
 use Rattle.keys.specs.Regions.{same_number}
-use Rattle.borrowers.proofs.Loans.{keeps_on, refused_keeps, loan_keeps}
+use Rattle.borrowers.proofs.Loans.{refused_keeps, loan_keeps}
 use Rattle.workers.proofs.shift.second_turn.Goals as goal
 
 pub hand_back-requires : goal.hand_back-requires

@@ -1,4 +1,3 @@
-use Rattle.std.proofs.Common.{◌-◌}
 use Rattle.directories.proofs.Entries.{held_still}
 use Rattle.directories.proofs.hashed.HashedDirectoryDirectory.enter.Goals as goal
 

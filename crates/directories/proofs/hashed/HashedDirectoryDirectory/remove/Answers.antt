@@ -1,5 +1,4 @@
-use Rattle.std.proofs.Common.{◌+◌, ◌≤◌, arith}
-use Rattle.directories.proofs.Entries.{held_still, free_few}
+use Rattle.directories.proofs.Entries.{held_still}
 use Rattle.directories.proofs.hashed.HashedDirectoryDirectory.remove.Goals as goal
 
 pub returns-then-remove_in : goal.returns-then-remove_in

@@ -1,5 +1,4 @@
-use Rattle.std.proofs.Common.{ℕ, ◌≤◌, length, replicate, None, refl, ap, ◌∙◌, arith}
-use lib.ListN.{length-replicate}
+use Rattle.std.proofs.Common.{ℕ, ◌≤◌, length, refl, ap, ◌∙◌, arith}
 use Rattle.directories.specs.Meaning.{with_keys, fresh}
 use Rattle.directories.specs.Numbers.{register, below}
 use Rattle.keys.specs.Regions.{same_number}

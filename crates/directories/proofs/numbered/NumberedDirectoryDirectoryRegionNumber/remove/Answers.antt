@@ -1,4 +1,4 @@
-use Rattle.std.proofs.Common.{◌<◌, ◌≤◌, get_or, is_some, Some, None, refl, ap, ◌∙◌, arith}
+use Rattle.std.proofs.Common.{◌<◌, ◌≤◌, get_or, is_some, Some, None, refl, ap, arith}
 use Rattle.directories.proofs.Registers.{few, found, there, nowhere, rank_room, rank_out, means_out, means_stay}
 use Rattle.directories.proofs.numbered.NumberedDirectoryDirectoryRegionNumber.remove.Goals as goal
 

@@ -1,5 +1,4 @@
-use Rattle.std.proofs.Common.{◌≡◌, ◌+◌, ◌%◌, List, refl, ap, arith, rules}
-use Rattle.orders.specs.declared.Entry.{Entry}
+use Rattle.std.proofs.Common.{◌+◌, ◌%◌, refl, ap, arith}
 use Rattle.orders.specs.Flat.{bottom}
 use Rattle.orders.specs.Meaning.{OrderMeaning, holding}
 use Rattle.orders.specs.Bottoms.{bottom_none}

@@ -1,8 +1,7 @@
-use Rattle.std.proofs.Common.{◌≡◌, ℕ, ◌+◌, ◌%◌, ◌<◌, ◌≤◌, List, ◌∷◌, drop, sym, refl, ap, ◌∙◌, arith, rules}
-use Rattle.orders.specs.declared.Entry.{Entry}
+use Rattle.std.proofs.Common.{◌≡◌, ℕ, ◌+◌, ◌%◌, ◌∷◌, drop, sym, refl, ap, ◌∙◌, arith, rules}
 use Rattle.orders.specs.Rings.{queue, at}
-use Rattle.orders.specs.Flat.{bottom, flat, turned, entry}
-use Rattle.orders.specs.Meaning.{OrderMeaning, waits, holding, leaver, rest}
+use Rattle.orders.specs.Flat.{bottom}
+use Rattle.orders.specs.Meaning.{OrderMeaning, holding, leaver, rest}
 use Rattle.orders.specs.Facts.{head_below}
 use Rattle.orders.specs.Bottoms.{bottom_none, bottom_first, bottom_rest}
 use Rattle.orders.proofs.Turns.{leaves_around}

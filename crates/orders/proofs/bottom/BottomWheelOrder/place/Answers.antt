@@ -1,9 +1,9 @@
-use Rattle.std.proofs.Common.{◌≡◌, ℕ, ◌+◌, ◌%◌, ◌<◌, ◌≤◌, true, false, ltb, sym, refl, ap, ◌∙◌, arith, rules}
+use Rattle.std.proofs.Common.{◌≡◌, ◌<◌, true, false, sym, refl, ap, ◌∙◌, arith}
 use Rattle.std.proofs.lemmas.Bool.{ltb-false}
 use Rattle.orders.specs.Rings.{at}
-use Rattle.orders.specs.Flat.{bottom, flat, turned, entry}
-use Rattle.orders.specs.Meaning.{OrderMeaning, takes, waits, holding, joined}
-use Rattle.orders.proofs.Meanings.{takes_yes, no_room, no_size, no_zero, no_span, placed_yes, placed_no}
+use Rattle.orders.specs.Flat.{bottom}
+use Rattle.orders.specs.Meaning.{OrderMeaning, takes, waits, holding}
+use Rattle.orders.proofs.Meanings.{takes_yes, no_room, placed_yes, placed_no}
 use Rattle.orders.specs.Bottoms.{bottom_waits, bottom_placed}
 use Rattle.orders.proofs.bottom.BottomWheelOrder.place.Goals as goal
 

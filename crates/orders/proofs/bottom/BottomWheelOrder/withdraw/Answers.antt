@@ -1,5 +1,5 @@
-use Rattle.std.proofs.Common.{◌≡◌, ℕ, ◌+◌, ◌%◌, ◌<◌, ◌≤◌, true, false, sym, refl, ap, ◌∙◌, arith, rules}
-use Rattle.orders.specs.Flat.{bottom, flat, turned, entry}
+use Rattle.std.proofs.Common.{◌≡◌, true, false, sym, refl, ap, ◌∙◌}
+use Rattle.orders.specs.Flat.{bottom}
 use Rattle.orders.specs.Meaning.{OrderMeaning, waits, holding}
 use Rattle.orders.proofs.Meanings.{withdrawn_no}
 use Rattle.orders.specs.Bottoms.{bottom_waits, bottom_waits_high, bottom_withdrawn}

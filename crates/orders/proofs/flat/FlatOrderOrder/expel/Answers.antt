@@ -1,4 +1,4 @@
-use Rattle.std.proofs.Common.{◌≡◌, ◌<◌, length, sym, ap, ◌∙◌, arith}
+use Rattle.std.proofs.Common.{◌≡◌, ◌<◌, length, sym, ap, arith}
 use Rattle.orders.specs.Meaning.{OrderMeaning, holding}
 use Rattle.orders.specs.FlatTable.{flat_order}
 use Rattle.orders.specs.FlatTables.{listed_long, expel_over, expel_kept, expel_leaver, expel_waiting}

@@ -1,4 +1,4 @@
-use Rattle.std.proofs.Common.{◌≡◌, ◌<◌, true, false, length, sym, ap, ◌∙◌, arith}
+use Rattle.std.proofs.Common.{◌≡◌, ◌<◌, false, length, sym, ap, ◌∙◌, arith}
 use Rattle.orders.specs.Meaning.{OrderMeaning, waits, holding}
 use Rattle.orders.specs.FlatTable.{flat_order}
 use Rattle.orders.proofs.Meanings.{withdrawn_no}

@@ -1,4 +1,4 @@
-use Rattle.std.proofs.Common.{◌≡◌, ℕ, ◌/◌, ◌^◌, ◌<◌, get_or, refl, arith, rules}
+use Rattle.std.proofs.Common.{◌/◌, ◌^◌, ◌<◌, get_or, arith, rules}
 use Rattle.orders.proofs.Digits.{part_first, part_none, word_first, word_none}
 use Rattle.orders.proofs.marks.Marks.from.Goals as goal
 

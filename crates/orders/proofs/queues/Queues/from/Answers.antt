@@ -1,11 +1,11 @@
-use Rattle.std.proofs.Common.{◌≡◌, ℕ, ◌+◌, ◌<◌, ◌≤◌, Bool, true, false, [], ◌∷◌, drop, Some, None, Option, sym, refl, ap, ◌∙◌, arith, rules, MatchOption}
-use mathlib.Core.Logic.{∥∥₁_elim, ∥∥₁_prop}
+use Rattle.std.proofs.Common.{◌≡◌, ℕ, ◌+◌, ◌<◌, ◌≤◌, true, false, [], ◌∷◌, drop, Some, None, Option, sym, ◌∙◌, arith, MatchOption}
+use mathlib.Core.Logic.{∥∥₁_elim}
 use mathlib.Core.List.{is_set}
 use native.Mathlib.Nat.{ℕ_set}
 use Rattle.orders.specs.Bits.{marked}
-use Rattle.orders.specs.Rings.{Rings, queue, at}
+use Rattle.orders.specs.Rings.{queue, at}
 use Rattle.orders.specs.declared.queues.Queues.{Queues}
-use Rattle.orders.proofs.Tables.{unsigned_empty, signed_head, sign}
+use Rattle.orders.proofs.Tables.{unsigned_empty, signed_head}
 use Rattle.orders.proofs.queues.Queues.from.Goals as goal
 
 empty_at : (v : Queues) (k : ℕ) → k < 256 → marked v.marks.words k ≡ false → queue v.next k ≡ []

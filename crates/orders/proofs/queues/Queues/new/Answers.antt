@@ -1,6 +1,6 @@
-use Rattle.std.proofs.Common.{◌≡◌, ℕ, ◌+◌, ◌<◌, ◌≤◌, ◌≢◌, length, get_or, set, replicate, sym, refl, ap, ◌∙◌, arith, rules, below_more}
+use Rattle.std.proofs.Common.{◌≡◌, ℕ, ◌<◌, length, set, replicate, sym, ◌∙◌, arith, below_more}
 use Rattle.std.proofs.lemmas.List.{length-set, get_or-set_same, get_or-set_other, length-replicate, get_or-replicate}
-use Rattle.orders.specs.Rings.{Rings, queue, at}
+use Rattle.orders.specs.Rings.{at}
 use Rattle.orders.proofs.Tables.{as_walked, queue_is, rings_none, sign_none}
 use Rattle.orders.proofs.queues.Queues.new.Goals as goal
 

@@ -1,12 +1,10 @@
-use Rattle.std.proofs.Common.{◌≡◌, ℕ, ◌+◌, ◌/◌, ◌^◌, ◌<◌, Bool, ◌||◌, eqb, [], sym, refl, ap, ◌∙◌, arith, rules}
+use Rattle.std.proofs.Common.{◌+◌, Bool, ◌||◌, eqb, sym, refl, ap, ◌∙◌, arith}
 use mathlib.Core.Logic.{∥∥₁_elim, ∥∥₁_prop}
 use mathlib.Core.List.{is_set}
 use native.Mathlib.Nat.{ℕ_set}
 use native.Mathlib.Bridge.{le_prop}
 use mathlib.Core.Bool.{Bool-set}
-use Rattle.orders.specs.Rings.{Rings, queue, at}
-use Rattle.orders.specs.Bits.{marked}
-use Rattle.orders.proofs.Tables.{as_walked, queue_is, rings_push, pushed, sign_push, sign}
+use Rattle.orders.proofs.Tables.{as_walked, queue_is, rings_push, pushed, sign_push}
 use Rattle.orders.proofs.queues.Queues.push.Goals as goal
 
 pub bounds-self-last : goal.bounds-self-last
@@ -19,7 +17,7 @@ invariant_of-self c =
     record {
       rings = ∥∥₁_elim v.rings ∥∥₁_prop (λ r. ∣ as_walked (rings_push r q c.args.slot c.requires.0 c.requires.1.0 c.requires.1.1) ∣₁);
       signs = λ k h. ∥∥₁_elim v.rings (Bool-set _ _)
-            (λ r. c.mark.ensures k h ∙ ap (λ (b : Bool). eqb k q || b) (v.signs k h) ∙ sym (sign_push r q c.args.slot c.requires.0 c.requires.1.0 k h));
+          (λ r. c.mark.ensures k h ∙ ap (λ (b : Bool). eqb k q || b) (v.signs k h) ∙ sym (sign_push r q c.args.slot c.requires.0 c.requires.1.0 k h));
     }
 
 pub returns : goal.returns

@@ -1,4 +1,4 @@
-use Rattle.std.proofs.Common.{◌≡◌, ℕ, ◌+◌, ◌-◌, ◌<◌, ◌≤◌, Bool, not, ◌&&◌, eqb, List, [], set, sym, refl, ap, ◌∙◌, arith, rules}
+use Rattle.std.proofs.Common.{◌≡◌, ℕ, ◌+◌, ◌-◌, ◌<◌, ◌≤◌, Bool, not, ◌&&◌, eqb, List, set, sym, refl, ap, ◌∙◌, arith}
 use mathlib.Core.Logic.{∥∥₁_elim, ∥∥₁_prop}
 use mathlib.Core.List.{is_set}
 use Rattle.orders.specs.Bits.{marked}
@@ -54,7 +54,7 @@ invariant_of-self c =
     record {
       rings = rings_after v x c.requires;
       signs = λ k h. ∥∥₁_elim v.rings (Bool-set _ _) (λ r.
-            c.unmark.ensures k h ∙ ap (λ (b : Bool). not (eqb k (at v.prev x - 1024)) && b) (v.signs k h) ∙ sym (sign_gone r x c.requires c.if-before-after.true c.if-before-ge-PLACES.true k h));
+          c.unmark.ensures k h ∙ ap (λ (b : Bool). not (eqb k (at v.prev x - 1024)) && b) (v.signs k h) ∙ sym (sign_gone r x c.requires c.if-before-after.true c.if-before-ge-PLACES.true k h));
     }
 
 pub invariant_of-self-else-before-ge-PLACES : goal.invariant_of-self-else-before-ge-PLACES

@@ -1,11 +1,11 @@
-use Rattle.std.proofs.Common.{◌≡◌, ℕ, ◌+◌, ◌-◌, ◌*◌, ◌<◌, ◌≤◌, false, List, [], length, sym, refl, ap, ◌∙◌, subst, ap₂, arith, rules}
+use Rattle.std.proofs.Common.{◌≡◌, ◌<◌, false, List, [], length, sym, refl, ap, ◌∙◌, subst, ap₂}
 use Rattle.orders.specs.declared.Entry.{Entry}
-use Rattle.orders.specs.Rings.{queue, at}
-use Rattle.orders.specs.Wheels.{wheel, merged, own, lift, Linked, Sound}
-use Rattle.orders.specs.Meaning.{OrderMeaning, Lawful, holding, leaver, rest, expelled, some_due}
+use Rattle.orders.specs.Rings.{queue}
+use Rattle.orders.specs.Wheels.{wheel, Sound}
+use Rattle.orders.specs.Meaning.{OrderMeaning, holding, rest, expelled, some_due}
 use Rattle.orders.proofs.Moves.{raise_may, start_all, step_all, first_home, other_home, not_clear, less_rest, none_first, clear_waiting}
 use Rattle.orders.specs.Merges.{due_none}
-use Rattle.orders.proofs.Migrations.{Climbs, kept_sizes, up_queues, up_memory, up_past}
+use Rattle.orders.proofs.Migrations.{kept_sizes, up_queues, up_memory, up_past}
 use Rattle.orders.proofs.Moves.{first_least, climbs_first, climbs_on}
 use Rattle.orders.proofs.wheel.Wheel.migrate.Goals as goal
 

@@ -1,4 +1,4 @@
-use Rattle.std.proofs.Common.{◌≡◌, ℕ, ◌<◌, ◌++◌, length}
+use Rattle.std.proofs.Common.{◌≡◌, ◌<◌, ◌++◌, length}
 use Rattle.orders.specs.Meaning.{holding}
 use Rattle.orders.specs.Rings.{queue, at}
 use Rattle.orders.specs.Wheels.{wheel, Linked}

@@ -1,7 +1,7 @@
-use Rattle.std.proofs.Common.{◌≡◌, ℕ, ◌+◌, ◌*◌, ◌<◌, ◌≤◌, min, List, [], replicate, sym, refl, ap, ◌∙◌, subst, rules}
+use Rattle.std.proofs.Common.{◌≡◌, ℕ, List, [], replicate, refl, ap, ◌∙◌}
 use Rattle.std.proofs.lemmas.List.{length-replicate, get_or-replicate}
-use Rattle.orders.specs.Wheels.{wheel, Linked, Sound}
-use Rattle.orders.specs.Meaning.{OrderMeaning, holding, emptied}
+use Rattle.orders.specs.Wheels.{wheel}
+use Rattle.orders.specs.Meaning.{OrderMeaning, holding}
 use Rattle.orders.proofs.Owns.{empty_waiting, empty_sound}
 use Rattle.orders.proofs.wheel.Wheel.new.Goals as goal
 

@@ -1,6 +1,6 @@
 use Rattle.std.proofs.Common.{◌≡◌, ℕ, ◌+◌, ◌-◌, ◌<◌, ◌≤◌, List, [], ◌∷◌, drop, set, sym, refl, ap, ◌∙◌, subst, arith, rules}
 use Rattle.orders.specs.Rings.{queue, at}
-use Rattle.orders.specs.Wheels.{wheel, Linked, Sound}
+use Rattle.orders.specs.Wheels.{wheel, Linked}
 use Rattle.orders.specs.Meaning.{OrderMeaning, holding, leaver, rest}
 use Rattle.orders.specs.Facts.{head_below, home_long_of}
 use Rattle.orders.proofs.Moves.{pop_first, pop_rest, pop_linked}

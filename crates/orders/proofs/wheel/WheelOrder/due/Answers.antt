@@ -1,6 +1,6 @@
-use Rattle.std.proofs.Common.{◌≡◌, ℕ, suc, ◌+◌, ◌-◌, ◌<◌, ◌≤◌, Bool, true, false, List, [], ◌∷◌, drop, MatchBool, sym, refl, ap, ◌∙◌, arith, rules}
+use Rattle.std.proofs.Common.{◌≡◌, ℕ, suc, ◌+◌, ◌-◌, ◌<◌, Bool, true, false, List, [], ◌∷◌, drop, MatchBool, sym, ap, ◌∙◌, arith}
 use Rattle.orders.specs.Rings.{queue, at}
-use Rattle.orders.specs.Meaning.{OrderMeaning, some_due}
+use Rattle.orders.specs.Meaning.{some_due}
 use Rattle.orders.specs.Flat.{flat}
 use Rattle.orders.specs.Wheels.{own}
 use Rattle.orders.specs.Laws.{flat_due_none, flat_due_some}

@@ -1,8 +1,7 @@
-use Rattle.std.proofs.Common.{◌≡◌, ℕ, ◌+◌, ◌*◌, ◌<◌, ◌≤◌, min, List, [], replicate, sym, refl, ap, ◌∙◌, subst, arith, rules}
+use Rattle.std.proofs.Common.{◌≡◌, ℕ, List, [], replicate, refl, ap, ◌∙◌}
 use Rattle.std.proofs.lemmas.List.{length-replicate, get_or-replicate}
-use Rattle.orders.specs.declared.Entry.{Entry}
-use Rattle.orders.specs.Wheels.{wheel, Linked, Sound}
-use Rattle.orders.specs.Meaning.{OrderMeaning, holding, emptied}
+use Rattle.orders.specs.Wheels.{wheel}
+use Rattle.orders.specs.Meaning.{OrderMeaning, holding}
 use Rattle.orders.proofs.Owns.{empty_waiting, empty_sound}
 use Rattle.orders.proofs.wheel.WheelOrder.empty.Goals as goal
 

@@ -1,8 +1,8 @@
-use Rattle.std.proofs.Common.{◌≡◌, ℕ, ◌+◌, ◌-◌, ◌*◌, ◌^◌, ◌<◌, ◌≤◌, min, List, [], Some, sym, refl, ap, ◌∙◌, subst, inl, inr, arith, rules}
+use Rattle.std.proofs.Common.{◌≡◌, ℕ, ◌+◌, ◌-◌, ◌*◌, ◌^◌, ◌<◌, ◌≤◌, Some, sym, ap, ◌∙◌, subst, inr, arith, rules}
 use Rattle.orders.specs.declared.Expelled.{Expelled}
 use Rattle.orders.specs.Flat.{entry}
-use Rattle.orders.specs.Wheels.{wheel, Linked, Sound, Over}
-use Rattle.orders.specs.Meaning.{OrderMeaning, Lawful, holding, fallen, leaver, rest, expelled}
+use Rattle.orders.specs.Wheels.{wheel}
+use Rattle.orders.specs.Meaning.{OrderMeaning, holding, fallen, leaver, expelled}
 use Rattle.orders.proofs.Moves.{gone_of, falls_first, falls_rest, first_credit}
 use Rattle.orders.specs.declared.wheel.Wheel.{Wheel}
 use Rattle.orders.specs.Rings.{queue}

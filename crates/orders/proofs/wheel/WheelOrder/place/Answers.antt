@@ -1,9 +1,9 @@
-use Rattle.std.proofs.Common.{◌≡◌, ℕ, ◌+◌, ◌*◌, ◌/◌, ◌%◌, ◌<◌, ◌≤◌, min, true, false, ◌||◌, ltb, List, set, sym, refl, ap, ◌∙◌, subst, arith, rules}
+use Rattle.std.proofs.Common.{◌≡◌, ℕ, ◌+◌, ◌*◌, ◌/◌, ◌%◌, ◌<◌, ◌≤◌, true, false, ltb, List, set, sym, refl, ap, ◌∙◌, subst, arith}
 use Rattle.std.proofs.lemmas.Bool.{ltb-false, le-ltb, lt-ltb, or_from, or_left, or_right}
 use Rattle.orders.specs.Rings.{at}
 use Rattle.orders.specs.Flat.{entry}
 use Rattle.orders.specs.Wheels.{wheel, Linked, Sound}
-use Rattle.orders.specs.Meaning.{OrderMeaning, Lawful, takes, waits, holding, joined, some_due}
+use Rattle.orders.specs.Meaning.{OrderMeaning, Lawful, takes, waits, holding, joined}
 use Rattle.orders.proofs.Meanings.{takes_yes, no_room, placed_yes, placed_no}
 use Rattle.orders.proofs.Owns.{wheel_waits, lawful_joined, near_linked, near_waiting, far_linked, far_waiting, far_ripe}
 use Rattle.orders.proofs.Turns.{goes_own, goes_below}

@@ -1,8 +1,8 @@
-use Rattle.std.proofs.Common.{◌≡◌, ℕ, ◌+◌, ◌<◌, ◌≤◌, true, false, ◌||◌, ltb, List, set, sym, refl, ap, ◌∙◌, subst, inl, inr, arith, rules}
+use Rattle.std.proofs.Common.{◌≡◌, ℕ, ◌<◌, true, false, ltb, List, set, sym, refl, ap, ◌∙◌, subst, inl, inr}
 use Rattle.std.proofs.lemmas.Bool.{ltb-true, ltb-false, le-ltb, lt-ltb, or_from, or_left, or_right}
 use Rattle.orders.specs.Rings.{at}
 use Rattle.orders.specs.Wheels.{wheel, Linked, Sound}
-use Rattle.orders.specs.Meaning.{OrderMeaning, Lawful, waits, without, withdrawn, holding}
+use Rattle.orders.specs.Meaning.{OrderMeaning, waits, without, holding}
 use Rattle.orders.proofs.Meanings.{withdrawn_no}
 use Rattle.orders.specs.Facts.{home_long_of}
 use Rattle.orders.proofs.Owns.{wheel_waits, wheel_waits_high, gone_waiting, gone_linked, left_waiting, left_linked, left_ripe}

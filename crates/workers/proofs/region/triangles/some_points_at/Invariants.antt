@@ -1,5 +1,5 @@
 use Rattle.std.proofs.Common.{◌≡◌, false, take}
-use Rattle.workers.specs.Meshes.{some, points_to, has_edge}
+use Rattle.workers.specs.Meshes.{some, points_to}
 use Rattle.workers.proofs.region.triangles.some_points_at.Given as goal
 
 abbrev pub invariant-loop-t : goal.invariant-loop-t
