@@ -1,7 +1,7 @@
 ghost use Rattle.std.specs.Prelude.{◌≡◌, ◌<◌, replicate, IfSome};
-ghost use Rattle.promises.specs.State.{blank, held_slot, out_at, slots as slot-count};
+ghost use Rattle.promises.specs.State.{blank, held_slot, out_at, slots as slot_count};
 ghost use Rattle.promises.specs.Events.{gets, keeps, leases, writes, gives_back, drops, tells};
-ghost use Rattle.promises.specs.Steps.{Step, presence as presence-at, short_slab};
+ghost use Rattle.promises.specs.Steps.{Step, presence as presence_at, short_slab};
 ghost use Rattle.promises.specs.Lines.{made};
 ghost use Rattle.promises.specs.Promises.{FromMaking};
 ghost use Rattle.cache.specs.Leases.{ticket_of, ticketed, Known, refused_by, HandsBack};
@@ -72,7 +72,7 @@ impl<K: Key, D: Directory<K>, O: Order> Cache<K, D, O> {
     /// How many slots the cache has.
     pub fn slots(&self) -> usize
         requires { Good K.Key.sameness K.Key.place D.Directory O.Order self.now }
-        ensures { result ≡ slot-count (state_of D.Directory O.Order self.now) }
+        ensures { result ≡ slot_count (state_of D.Directory O.Order self.now) }
     {
         self.directory.size()
     }
@@ -160,7 +160,7 @@ impl<K: Key, D: Directory<K>, O: Order> Cache<K, D, O> {
     // Where a region is.
     fn presence(&self, key: &K) -> Presence
         requires { Good K.Key.sameness K.Key.place D.Directory O.Order self.now }
-        ensures { result ≡ presence-at self.now.table (held_slot K.Key.sameness (state_of D.Directory O.Order self.now) key.now) }
+        ensures { result ≡ presence_at self.now.table (held_slot K.Key.sameness (state_of D.Directory O.Order self.now) key.now) }
     {
         match self.find(key) {
             None => Presence::Absent,

@@ -2,7 +2,7 @@
 ghost use Rattle.std.specs.Prelude.{◌≡◌, true, Ok};
 ghost use Rattle.promises.specs.State.{known};
 ghost use Rattle.promises.specs.Events.{gives_back};
-ghost use Rattle.promises.specs.Steps.{Step as Steps-to};
+ghost use Rattle.promises.specs.Steps.{Step as StepsTo};
 ghost use Rattle.cache.specs.Leases.{ticket_of};
 ghost use Rattle.cache.specs.Whole.{state_of, Good};
 ghost use Rattle.borrowers.specs.Loans.{KeepsLeases};
@@ -19,7 +19,7 @@ pub(crate) fn hand_back<K: Key, D: Directory<K>, O: Order>(cache: &mut Cache<K, 
     requires good { Good K.Key.sameness K.Key.place D.Directory O.Order cache.old }
     requires known { known (state_of D.Directory O.Order cache.old).table (ticket_of lease) ≡ true }
     ensures good { Good K.Key.sameness K.Key.place D.Directory O.Order cache.new }
-    ensures step { Steps-to K.Key.sameness (state_of D.Directory O.Order cache.old) (gives_back (ticket_of lease) (Ok tt)) (state_of D.Directory O.Order cache.new) }
+    ensures step { StepsTo K.Key.sameness (state_of D.Directory O.Order cache.old) (gives_back (ticket_of lease) (Ok tt)) (state_of D.Directory O.Order cache.new) }
 {
     match cache.give_back(lease) {
         Ok(()) => {}

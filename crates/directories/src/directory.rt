@@ -1,7 +1,6 @@
 // The one set of calls of every directory.
 ghost use Rattle.std.specs.Prelude.{◌≡◌, ℕ, Bool, is_some};
-ghost use Rattle.directories.specs.Meaning.{DirectoryMeaning, Distinct, Respects, AllAdmitted, key_at, find, emptied, Enters, removed};
-ghost use Rattle.directories.specs.Meaning.{size as type_size};
+ghost use Rattle.directories.specs.Meaning.{DirectoryMeaning, Distinct, Respects, AllAdmitted, key_at, find, emptied, Enters, removed, size as slot_count};
 
 use keys::Key;
 
@@ -28,7 +27,7 @@ pub trait Directory<K: Key> {
     /// How many slots there are.
     fn size(&self) -> usize
         requires { valid K.Key.sameness K.Key.place self.now }
-        ensures { result ≡ type_size (meaning self.now) };
+        ensures { result ≡ slot_count (meaning self.now) };
 
     /// Takes every pair out; the size is then the lesser of `size` and the capacity.
     fn empty(&mut self, size: usize)

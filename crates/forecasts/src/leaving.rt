@@ -1,7 +1,6 @@
 ghost use Rattle.std.specs.Prelude.{◌≡◌, ◌+◌, ◌≤◌, [], length, is_ok, IfOk, if◌then◌else◌, vec_len, vec_capacity};
 ghost use Rattle.orders.specs.Meaning.{emptied};
-ghost use Rattle.forecasts.specs.Leaving.{departures, foretold};
-ghost use Rattle.forecasts.specs.Leaving.{all_placed as allPlaced};
+ghost use Rattle.forecasts.specs.Leaving.{departures, foretold, all_placed};
 
 use crate::Row;
 use orders::{Expelled, Order};
@@ -11,7 +10,7 @@ use std::alloc::{AllocError, Global};
 fn place_all<O: Order>(order: &mut O, rows: &[Row])
     requires { O.Order.valid order.old }
     ensures still { O.Order.valid order.new }
-    ensures after { O.Order.meaning order.new ≡ allPlaced (O.Order.meaning order.old) rows.now }
+    ensures after { O.Order.meaning order.new ≡ all_placed (O.Order.meaning order.old) rows.now }
 {
     for row in rows {
         let _ = order.place(row.slot, row.cost);

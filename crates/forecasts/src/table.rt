@@ -1,12 +1,6 @@
 ghost use Rattle.std.specs.Prelude.{◌≡◌, ◌/◌, ◌<◌, [], length, Ok, Err, vec_capacity, MatchResult};
 ghost use Rattle.std.specs.Option.{option_map};
-ghost use Rattle.forecasts.specs.Table.{capped, halves, listed, reading, Blames, FirstSpace};
-ghost use Rattle.forecasts.specs.Table.{decimal_value as decimalValue};
-ghost use Rattle.forecasts.specs.Table.{two_values as twoValues};
-ghost use Rattle.forecasts.specs.Table.{row_of};
-ghost use Rattle.forecasts.specs.Table.{is_digit as isDigit};
-ghost use Rattle.forecasts.specs.Table.{rows_from};
-ghost use Rattle.forecasts.specs.Table.{capped_row as cappedRow};
+ghost use Rattle.forecasts.specs.Table.{capped, halves, listed, reading, Blames, FirstSpace, decimal_value, two_values, row_of, is_digit, rows_from, capped_row};
 
 use crate::{ForecastError, LineFault, Reason};
 use orders::{FLAT_SPAN, SLOTS};
@@ -38,14 +32,14 @@ fn find_space(line: &[u8]) -> Option<usize>
 
 // Whether the byte is a decimal digit.
 fn is_digit(byte: u8) -> bool
-    ensures { result ≡ isDigit byte }
+    ensures { result ≡ is_digit byte }
 {
     byte >= b'0' && byte <= b'9'
 }
 
 // A decimal value, or `CAP` in the place of a greater one.
 fn decimal(digits: &[u8]) -> Option<u32>
-    ensures { result ≡ option_map capped (decimalValue digits.now) }
+    ensures { result ≡ option_map capped (decimal_value digits.now) }
 {
     if digits.is_empty() {
         return None;
@@ -62,7 +56,7 @@ fn decimal(digits: &[u8]) -> Option<u32>
 
 // The two values of a line, each as `decimal` reads it.
 fn values(line: &[u8]) -> Option<Row>
-    ensures { result ≡ option_map cappedRow (twoValues (halves line.now)) }
+    ensures { result ≡ option_map capped_row (two_values (halves line.now)) }
 {
     let space = find_space(line)?;
     let slot = decimal(&line[..space])?;

@@ -1,7 +1,6 @@
 ghost use Rattle.std.specs.Prelude.{◌≡◌, ℕ, ◌-◌, ◌<◌, ◌≤◌, length, take};
 ghost use Rattle.std.specs.List.{remove};
-ghost use Rattle.orders.specs.Meaning.{fallen, emptied};
-ghost use Rattle.orders.specs.Meaning.{some_due as someDue};
+ghost use Rattle.orders.specs.Meaning.{fallen, emptied, some_due};
 ghost use Rattle.orders.specs.FlatTable.{flat_order, Kept, Found, FirstLeast, FreshFlat, permitted};
 ghost use Rattle.orders.specs.Wheels.{Over};
 ghost use Rattle.orders.specs.FlatTables.{neat_lawful};
@@ -62,7 +61,7 @@ fn first_least(entries: &[Entry]) -> usize
 
 // Whether some entry has credit 0.
 fn any_due(entries: &[Entry]) -> bool
-    ensures { result ≡ someDue entries.now }
+    ensures { result ≡ some_due entries.now }
 {
     for e in entries {
         if e.credit == 0 {

@@ -5,8 +5,7 @@
 #![tactic(auto)]
 
 ghost use Rattle.std.specs.Prelude.{◌≡◌};
-ghost use Rattle.orders.specs.Meaning.{OrderMeaning, Lawful, waits, takes, placed, withdrawn, leaver, expelled, emptied};
-ghost use Rattle.orders.specs.Meaning.{some_due as someDue};
+ghost use Rattle.orders.specs.Meaning.{OrderMeaning, Lawful, waits, takes, placed, withdrawn, leaver, expelled, emptied, some_due};
 
 mod bottom;
 mod figures;
@@ -94,7 +93,7 @@ pub trait Order {
     /// Whether some slot has credit 0. Moves nothing.
     fn due(&self) -> bool
         requires { valid self.now }
-        ensures { result ≡ someDue (meaning self.now).waiting };
+        ensures { result ≡ some_due (meaning self.now).waiting };
 
     /// No slot waits any more, and the hands are at 0.
     fn empty(&mut self)

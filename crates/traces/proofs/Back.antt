@@ -1,6 +1,6 @@
 -- What is written reads back.
 use Rattle.std.proofs.Common.{◌≡◌, ℕ, ◌+◌, ◌^◌, ◌<◌, ◌≤◌, List, [], ◌∷◌, ◌++◌, map, length, take, drop, sym, refl, ap, ◌∙◌, subst, ⊎_elim, append_assoc, arith}
-use Rattle.std.specs.List.{flat_map, AllByRecursion as All}
+use Rattle.std.specs.List.{flat_map, AllByRecursion}
 use Rattle.std.specs.Str.Parse.{digits_value}
 use Rattle.std.specs.Char.{digit_value}
 use Rattle.std.specs.Int.Digits.{digits_of, number_from_digits, AllBelowBase}
@@ -37,13 +37,13 @@ worths b (d ∷ ds) base h = (λ j. glyph_worth d (omega (arith, h.0)) j ∷ wor
 
 -- what a numeral is
 module _ (b n : ℕ) (two : 2 ≤ b) (base : b ≤ 16) where
-  pub numeral_digits : All (Digit b) (numeral_of b n)
+  pub numeral_digits : AllByRecursion (Digit b) (numeral_of b n)
   unfolding numeral_of
   numeral_digits =
       ⊎_elim
       (λ (z : n ≡ 0). rw z ((omega arith, omega arith), tt))
       (λ (z : n ≡ 0 → ⊥).
-      subst (All (Digit b)) (sym (numeral_some b n (omega arith)))
+      subst (AllByRecursion (Digit b)) (sym (numeral_some b n (omega arith)))
       (All-map (Digit b) glyph_of (digits_of b n) (All-weaker (λ d. d < b) (λ d. Digit b (glyph_of d)) (λ d h. glyph_digit b d base h) (digits_of b n) (all_below_base_digits_of b n two))))
       (cases_eq n 0)
 
@@ -100,7 +100,7 @@ unfolding row_text
 pairs_text [] = refl
 pairs_text (r ∷ rows) = ap (λ t. row_text r ++ t) (pairs_text rows)
 
-pairs_rows : (rows : List Row) → All Good rows → PairsAre KeyCost (map pair_of rows) rows
+pairs_rows : (rows : List Row) → AllByRecursion Good rows → PairsAre KeyCost (map pair_of rows) rows
 pairs_rows [] h = tt
 pairs_rows (r ∷ rows) h = (
   (
@@ -111,7 +111,7 @@ pairs_rows (r ∷ rows) h = (
   pairs_rows rows h.1,
 )
 
-good_rows : (slots : ℕ) (rows : List Row) → Fit slots rows → All Good rows
+good_rows : (slots : ℕ) (rows : List Row) → Fit slots rows → AllByRecursion Good rows
 good_rows slots rows fit =
     All-from_get_or Good rows (row_of 0 0) (λ i h. (fit.cost_least i h, fit.cost_most i h, fit.key_most i h))
 

@@ -2,7 +2,7 @@
 use Rattle.std.proofs.Common.{◌≡◌, ℕ, ◌+◌, ◌<◌, ◌≤◌, ◌⊎◌, List, [], ◌∷◌, length, refl, inl, inr, ⊎_elim, arith, rules}
 use Rattle.std.specs.Str.Parse.{digits_value}
 use Rattle.std.specs.Char.{digit_value}
-use Rattle.std.specs.List.{AllByRecursion as All}
+use Rattle.std.specs.List.{AllByRecursion}
 use Rattle.std.specs.Str.{bytes_eq}
 use Rattle.std.proofs.lemmas.Slice.Eq.{bytes_eq-Decides}
 use Rattle.std.proofs.lemmas.Bool.{cases_Bool, cases_lt, cases_eq, both_ways}
@@ -34,7 +34,7 @@ told_lt m n = ⊎_elim (λ h. inl h) (λ h. inr (λ k. omega arith)) (cases_lt m
 told_le : (m n : ℕ) → Told (m ≤ n)
 told_le m n = ⊎_elim (λ h. inr (λ k. omega arith)) (λ h. inl h) (cases_lt n m)
 
-told_all : (r : ℕ) (t : List ℕ) → Told (All (Digit r) t)
+told_all : (r : ℕ) (t : List ℕ) → Told (AllByRecursion (Digit r) t)
 told_all r [] = inl tt
 told_all r (c ∷ t) = both (both (told_lt (digit_value c) r) (told_lt c 97)) (told_all r t)
 

@@ -1,6 +1,6 @@
 -- The layout with forms and values apart, and that it is the same as with one reading.
 use Rattle.std.proofs.Common.{◌≡◌, ℕ, ◌≤◌, Bool, true, false, ◌&&◌, ltb, leb, List, [], ◌∷◌, ◌++◌, length, Some, None, sym, refl, ap, ◌∙◌, ⊎_elim, arith}
-use Rattle.std.specs.List.{flat_map, AllByRecursion as All}
+use Rattle.std.specs.List.{flat_map, AllByRecursion}
 use Rattle.std.specs.Str.Parse.{digits_value}
 use Rattle.std.specs.Char.{digit_value}
 use Rattle.std.proofs.lemmas.Bool.{and_parts, and_from, cases_Bool, ltb-true, leb-true, lt-ltb, le-leb, cond-true, cond-false}
@@ -14,14 +14,14 @@ use Rattle.traces.specs.Layout.{title, names_of, first_of, second_of, row_of, ro
 use Rattle.traces.specs.Words.{Pair, pair_text, first_in, second_in, AreRows, Says}
 
 -- a reading, and the fact that it stands for
-digits_true : (b : ℕ) (t : List ℕ) → all_digits b t ≡ true → All (Digit b) t
+digits_true : (b : ℕ) (t : List ℕ) → all_digits b t ≡ true → AllByRecursion (Digit b) t
 digits_true b [] h = tt
 digits_true b (x ∷ t) h =
     let p = and_parts (is_digit b x) (all_digits b t) h in
     let q = and_parts (ltb (digit_value x) b) (ltb x 97) p.0 in
     ((ltb-true (digit_value x) b q.0, ltb-true x 97 q.1), digits_true b t p.1)
 
-digits_from : (b : ℕ) (t : List ℕ) → All (Digit b) t → all_digits b t ≡ true
+digits_from : (b : ℕ) (t : List ℕ) → AllByRecursion (Digit b) t → all_digits b t ≡ true
 digits_from b [] h = refl
 digits_from b (x ∷ t) h =
     and_from (is_digit b x) (all_digits b t) (and_from (ltb (digit_value x) b) (ltb x 97) (lt-ltb (digit_value x) b h.0.0) (lt-ltb x 97 h.0.1)) (digits_from b t h.1)

@@ -1,7 +1,7 @@
 -- The values of a trace that a text says are in range.
 use Rattle.std.proofs.Common.{◌≡◌, ℕ, ◌^◌, ◌<◌, ◌≤◌, List, [], ◌∷◌, ap, arith}
 use Rattle.std.specs.Str.Parse.{digits_value}
-use Rattle.std.specs.List.{AllByRecursion as All}
+use Rattle.std.specs.List.{AllByRecursion}
 use Rattle.std.proofs.ByRecursion.{All-get_or}
 use Rattle.traces.specs.declared.table.ColumnOrder.{ColumnOrder}
 use Rattle.traces.specs.declared.table.ColumnOrder.TheVariants.{KeyCost, CostKey}
@@ -21,7 +21,7 @@ good_by KeyCost a b r fa fb e =
 good_by CostKey a b r fa fb e =
     (omega (arith, ap (λ x. x.cost) e, fa.least), omega (arith, ap (λ x. x.cost) e, fa.greatest), omega (arith, ap (λ x. x.key.number) e, fb.greatest))
 
-good_pairs : (o : ColumnOrder) (ts : List Pair) (rs : List Row) → PairsAre o ts rs → All Good rs
+good_pairs : (o : ColumnOrder) (ts : List Pair) (rs : List Row) → PairsAre o ts rs → AllByRecursion Good rs
 good_pairs o ts [] h = tt
 good_pairs o [] (r ∷ rs) h = elim h [ ]
 good_pairs o (t ∷ ts) (r ∷ rs) h = (good_by o t.fore t.aft r h.0.0 h.0.1 h.0.2, good_pairs o ts rs h.1)

@@ -1,6 +1,6 @@
 -- From the layout's bytes to its lines.
 use Rattle.std.proofs.Common.{◌≡◌, ℕ, suc, ◌+◌, ◌≤◌, true, eqb, List, [], ◌∷◌, ◌++◌, length, drop, sym, refl, ap, ◌∙◌, subst, append_assoc, arith, rules}
-use Rattle.std.specs.List.{flat_map, AllByRecursion as All}
+use Rattle.std.specs.List.{flat_map, AllByRecursion}
 use Rattle.std.specs.Str.Parse.{digits_value}
 use Rattle.std.specs.Char.{digit_value}
 use Rattle.std.proofs.ByRecursion.{All-weaker, All-append}
@@ -19,7 +19,7 @@ use Rattle.traces.proofs.Laid.{PairsAre, Laid, says_laid}
 
 -- no byte of the text is b
 abbrev pub Lacks : ℕ → List ℕ → Type 0
-Lacks b xs = All (λ x. x ≡ b → ⊥) xs
+Lacks b xs = AllByRecursion (λ x. x ≡ b → ⊥) xs
 
 pub cut_line : (b rest : List ℕ) → Lacks 10 b → cut (b ++ (10 ∷ rest)) ≡ line_of b true ∷ cut rest
 cut_line [] rest h = refl

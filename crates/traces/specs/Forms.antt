@@ -2,7 +2,7 @@
 use Rattle.std.specs.Prelude.{◌≡◌, ℕ, ◌-◌, ◌^◌, ◌<◌, ◌≤◌, Bool, true, cond, ◌&&◌, List, [], ◌∷◌, length, Some, None, Option, nat_le, nat_lt}
 use Rattle.std.specs.Char.{digit_value}
 use Rattle.std.specs.Str.Parse.{digits_value}
-use Rattle.std.specs.List.{AllByRecursion as All}
+use Rattle.std.specs.List.{AllByRecursion}
 use Rattle.traces.specs.declared.values.Column.{Column}
 use Rattle.traces.specs.declared.values.Column.TheVariants.{Slots, Key, Cost}
 
@@ -57,13 +57,13 @@ reading c t = cond (in_form c t && in_range c (digits_value (radix_of c) t)) (So
 pub record Fits (column : Column) (text : List ℕ) : Type 0 where
   pub some : 0 < length text
   pub short : length text ≤ most_of column
-  pub digits : All (Digit (radix_of column)) text
+  pub digits : AllByRecursion (Digit (radix_of column)) text
   pub least : low_of column ≤ digits_value (radix_of column) text
   pub greatest : digits_value (radix_of column) text ≤ high_of column
 
 -- n is the number that a text of digits writes
 abbrev pub Writes : ℕ → List ℕ → ℕ → Type 0
-Writes base text n = All (Digit base) text × (n ≡ digits_value base text)
+Writes base text n = AllByRecursion (Digit base) text × (n ≡ digits_value base text)
 
 -- n is the value of that column that a text is
 abbrev pub IsValue : Column → List ℕ → ℕ → Type 0

@@ -1,7 +1,7 @@
 //! The values of a trace: decimal and hexadecimal numbers, each column with its own length and range.
 ghost use Rattle.std.specs.Prelude.{◌≡◌, ◌≤◌, length, MatchOption};
 ghost use Rattle.std.specs.Char.{digit_value};
-ghost use Rattle.std.specs.List.{AllByRecursion as All};
+ghost use Rattle.std.specs.List.{AllByRecursion};
 ghost use Rattle.traces.specs.Forms.{Digit, Fits, Writes, IsValue, worth, reading};
 
 /// A column of a trace's tables.
@@ -28,7 +28,7 @@ fn digit(b: u8) -> Option<u32>
 fn numeral(text: &[u8], radix: u32) -> Option<u32>
     requires base { radix ≤ 16 }
     requires short { length text.now ≤ 8 }
-    ensures { MatchOption result (All (Digit radix) text.now → ⊥) (λ n. Writes radix text.now n) }
+    ensures { MatchOption result (AllByRecursion (Digit radix) text.now → ⊥) (λ n. Writes radix text.now n) }
 {
     let mut n = 0;
     for b in text {
