@@ -3,7 +3,7 @@ use Rattle.std.proofs.Common.{◌≡◌, ℕ, ◌<◌, min, max, Bool, false, no
 use Rattle.std.proofs.lemmas.Bool.{cond-false}
 use Rattle.keys.specs.Sameness.{SameLaws}
 use Rattle.orders.specs.Meaning.{OrderMeaning, emptied}
-use Rattle.directories.specs.Meaning.{DirectoryMeaning, find, emptied as emptied-directory}
+use Rattle.directories.specs.Meaning.{DirectoryMeaning, find, emptied as emptied_directory}
 use Rattle.promises.specs.declared.answers.Refusal.TheVariants.{NotHeld, OnLease}
 use Rattle.promises.specs.declared.records.Record.{Record}
 use Rattle.promises.specs.declared.records.Table.{Table}
@@ -21,12 +21,12 @@ parts_same {K} {d} {d'} {o} {o'} {t} {t'} p q r =
     ∙ ap (λ (x : OrderMeaning). record { directory = d'; order = x; table = t }) q
     ∙ ap (λ (x : Table). record { directory = d'; order = o'; table = x }) r
 
-pub new_made : {K : Type 0} (d d₁ : DirectoryMeaning K) (o o₁ : OrderMeaning) (mark chunk c₁ c₂ z z₁ : ℕ) (records : List Record) → o₁ ≡ emptied o → z ≡ o₁.size → z₁ ≡ min z 1024 → d₁ ≡ emptied-directory d z₁ → c₁ ≡ min chunk 4096 → c₂ ≡ max c₁ 1 → records ≡ replicate 1024 blank
+pub new_made : {K : Type 0} (d d₁ : DirectoryMeaning K) (o o₁ : OrderMeaning) (mark chunk c₁ c₂ z z₁ : ℕ) (records : List Record) → o₁ ≡ emptied o → z ≡ o₁.size → z₁ ≡ min z 1024 → d₁ ≡ emptied_directory d z₁ → c₁ ≡ min chunk 4096 → c₂ ≡ max c₁ 1 → records ≡ replicate 1024 blank
     → ◌≡◌ {A = State K} (record { directory = d₁; order = o₁; table = record { mark = mark; chunk = c₂; records = records } }) (made (record { directory = d; order = o; mark = mark; chunk = chunk }))
 new_made d d₁ o o₁ mark chunk c₁ c₂ z z₁ records e f g h a b t =
     let y : o₁.size ≡ o.size = ap (λ (x : OrderMeaning). x.size) e in
     let n : z₁ ≡ min 1024 o.size = omega arith in
-    parts_same (h ∙ ap (emptied-directory d) n) e
+    parts_same (h ∙ ap (emptied_directory d) n) e
     (ap (λ (x : ℕ). record { mark = mark; chunk = x; records = records }) (b ∙ ap (λ (x : ℕ). max x 1) a)
     ∙ ap (λ (x : List Record). record { mark = mark; chunk = chunk_size chunk; records = x }) t)
 

@@ -1,6 +1,6 @@
 -- A wheel's expel: a slot of its own leaves, or slots come up from below.
 use Rattle.std.proofs.Common.{◌≡◌, ℕ, suc, ◌+◌, ◌-◌, ◌*◌, ◌<◌, ◌≤◌, Bool, true, false, cond, ◌||◌, eqb, ltb, List, [], ◌∷◌, ◌++◌, length, set, Some, None, sym, refl, ap, ◌∙◌, subst, ap₂, ⊎_elim, arith}
-use Rattle.std.specs.List.{AllByRecursion as All}
+use Rattle.std.specs.List.{AllByRecursion}
 use Rattle.std.proofs.ByRecursion.{All-weaker}
 use Rattle.std.proofs.lemmas.List.{get_or-set_same, get_or-set_other, length-set}
 use Rattle.std.proofs.lemmas.Bool.{cases_eq, cases_lt, eq-eqb, ne_eqb, le-ltb, cond-true, cond-false, or_left, ltb-true, both_ways}
@@ -99,7 +99,7 @@ own_joined next next' x r h q = sym (flat_joined (λ j. queue next (0 + j)) (λ 
     (λ j n b. let z : 0 + j ≡ j = omega arith in
     ap (queue next') z ∙ q j (omega arith) ∙ cond-false (eqb j r) (queue next j ++ x ∷ []) (queue next j) (ne_eqb j r n) ∙ ap (queue next) (sym z)))
 
-merged_all : (P : Entry → Type 0) (acc es : List Entry) → All P acc → All P es → All P (merged acc es)
+merged_all : (P : Entry → Type 0) (acc es : List Entry) → AllByRecursion P acc → AllByRecursion P es → AllByRecursion P (merged acc es)
 merged_all P acc [] a b = a
 merged_all P acc (e ∷ es) a b = merged_all P (joined e acc) es (join_all P e acc b.0 a) b.1
 
@@ -353,8 +353,8 @@ falls_rest d [] o = refl
 falls_rest d (y ∷ ys) o = let l : d ≤ y.credit = o.0 in let c : d + (y.credit - d) ≡ y.credit = omega arith in
     fallen_twice (y.credit - d) d ys ∙ ap (λ (n : ℕ). fallen n ys) c
 
-pub first_credit : (e : Expelled) (ws : List Entry) (n : ℕ) → All (λ (y : Entry). y.credit ≤ n) ws → Some e ≡ leaver ws → e.credit ≤ n
-first_credit e ws n a h = let s = split_first e ws h in let b : All (λ (y : Entry). y.credit ≤ n) (entry_of e ∷ s.0) = subst (All (λ (y : Entry). y.credit ≤ n)) s.1 a in b.0
+pub first_credit : (e : Expelled) (ws : List Entry) (n : ℕ) → AllByRecursion (λ (y : Entry). y.credit ≤ n) ws → Some e ≡ leaver ws → e.credit ≤ n
+first_credit e ws n a h = let s = split_first e ws h in let b : AllByRecursion (λ (y : Entry). y.credit ≤ n) (entry_of e ∷ s.0) = subst (AllByRecursion (λ (y : Entry). y.credit ≤ n)) s.1 a in b.0
 
 pub none_first : (ws : List Entry) → None ≡ leaver ws → ws ≡ []
 none_first [] h = refl

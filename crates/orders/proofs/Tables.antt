@@ -1,6 +1,6 @@
 -- The tables of the 256 queues: rings that a slot joins and leaves, and their marks.
 use Rattle.std.proofs.Common.{◌≡◌, ℕ, ◌+◌, ◌-◌, ◌<◌, ◌≤◌, Bool, true, false, cond, not, ◌&&◌, ◌||◌, eqb, List, [], ◌∷◌, ◌++◌, length, drop, set, sym, refl, ap, ◌∙◌, subst, ⊎_elim, arith}
-use Rattle.std.specs.List.{AllByRecursion as All}
+use Rattle.std.specs.List.{AllByRecursion}
 use Rattle.std.proofs.lemmas.List.{length-set, get_or-set_same, get_or-set_other}
 use Rattle.std.proofs.ByRecursion.{All-push}
 use Rattle.std.proofs.lemmas.Bool.Decides.{nat_tests}
@@ -47,7 +47,7 @@ module _ {next prev home : List ℕ} {qs : ℕ → List ℕ} (r : Rings next pre
     forth = r.forth;
     idle = r.idle;
     ring = λ q h. subst (λ (xs : List ℕ). Path (at next) (1024 + q) xs (1024 + q)) (sym (queue_is q h)) (r.ring q h);
-    slots = λ q h. subst (All (λ x. x < 1024)) (sym (queue_is q h)) (r.slots q h);
+    slots = λ q h. subst (AllByRecursion (λ x. x < 1024)) (sym (queue_is q h)) (r.slots q h);
     once = λ q h. subst Once (sym (queue_is q h)) (r.once q h);
     member = λ q x h k. ap (holds x) (queue_is q h) ∙ r.member q x h k;
   }
@@ -114,8 +114,8 @@ module _ {next prev home : List ℕ} {qs : ℕ → List ℕ} (r : Rings next pre
               (qs k) (1024 + k) (1024 + k) (omega arith) (omega arith) (r.slots k h) (omega arith) (omega arith) (r.ring k h)))
               (cases_eq k q);
           slots = λ k h. ⊎_elim
-              (λ e. subst (All (λ y. y < 1024)) (sym (pushed_here k e)) (All-push (λ y. y < 1024) (qs k) x (r.slots k h) x-in))
-              (λ e. subst (All (λ y. y < 1024)) (sym (pushed_else k e)) (r.slots k h))
+              (λ e. subst (AllByRecursion (λ y. y < 1024)) (sym (pushed_here k e)) (All-push (λ y. y < 1024) (qs k) x (r.slots k h) x-in))
+              (λ e. subst (AllByRecursion (λ y. y < 1024)) (sym (pushed_else k e)) (r.slots k h))
               (cases_eq k q);
           once = λ k h. ⊎_elim
               (λ e. subst Once (sym (pushed_here k e)) (once_push (qs k) x (r.once k h) (r.member k x h x-in ∙ ne_eqb (at home x) k (omega arith))))
@@ -195,7 +195,7 @@ module _ {next prev home : List ℕ} {qs : ℕ → List ℕ} (r : Rings next pre
 abbrev pub sign : List ℕ → ℕ → Bool
 sign next k = not (eqb (at next (1024 + k)) (1024 + k))
 
-path_empty : (f : ℕ → ℕ) (a : ℕ) (xs : List ℕ) → 1024 ≤ a → All (λ y. y < 1024) xs → Path f a xs a → f a ≡ a → xs ≡ []
+path_empty : (f : ℕ → ℕ) (a : ℕ) (xs : List ℕ) → 1024 ≤ a → AllByRecursion (λ y. y < 1024) xs → Path f a xs a → f a ≡ a → xs ≡ []
 path_empty f a [] h s p e = refl
 path_empty f a (y ∷ ys) h s p e = let l : y < 1024 = s.0 in let q : f a ≡ y = p.0 in absurd (omega arith)
 

@@ -3,7 +3,7 @@ use Rattle.std.specs.Prelude.{◌≡◌, ℕ, suc, ◌+◌, ◌-◌, ◌%◌, �
 use Rattle.std.proofs.Math.Path.{sym, ap}
 use Rattle.std.proofs.Common.{subst, ◌∙◌, ⊎_elim}
 use native.Mathlib.Omega.{arith}
-use Rattle.std.specs.List.{AllByRecursion as All}
+use Rattle.std.specs.List.{AllByRecursion}
 use Rattle.std.proofs.lemmas.List.{append-nil}
 use Rattle.std.proofs.lemmas.Bool.{cases_lt, eq-eqb, ne_eqb, lt-ltb, le-ltb, cond-true, cond-false}
 use Rattle.orders.specs.declared.Entry.{Entry}
@@ -15,7 +15,7 @@ use Rattle.orders.specs.Flats.{flat_same, flat_all, flat_without, flat_fallen, f
 use Rattle.orders.specs.Laws.{flat_waits_none, flat_waits_some, flat_sorted, flat_apart}
 use Rattle.orders.specs.Facts.{member_of, once_of, slots_of, high_of, lone_of}
 
-all_const : (P : Type 0) (xs : List ℕ) → P → All (λ _. P) xs
+all_const : (P : Type 0) (xs : List ℕ) → P → AllByRecursion (λ _. P) xs
 all_const P [] p = tt
 all_const P (x ∷ xs) p = (p, all_const P xs p)
 

@@ -1,6 +1,6 @@
 -- The flat order: a table whose first `count` entries stand in the order of their placing.
 use Rattle.std.specs.Prelude.{◌≡◌, ℕ, ◌<◌, ◌≤◌, Bool, false, ◌&&◌, List, [], length, take, Some, None, Option, nat_le, nat_lt, slice_index_or}
-use Rattle.std.specs.List.{AllByRecursion as All}
+use Rattle.std.specs.List.{AllByRecursion}
 use Rattle.orders.specs.declared.Entry.{Entry}
 use Rattle.orders.specs.declared.Order.{Ghosts}
 use Rattle.orders.specs.declared.flat.FlatOrder.{FlatOrder}
@@ -20,8 +20,8 @@ permitted s c = nat_lt s 1024 && (nat_lt 0 c && nat_le c 65280)
 -- No slot stands twice, and every slot and credit is within its limit.
 pub record Neat (xs : List Entry) : Type 0 where
   pub apart : Apart xs
-  pub slots : All (λ (y : Entry). y.slot < 1024) xs
-  pub credits : All (λ (y : Entry). y.credit ≤ 65280) xs
+  pub slots : AllByRecursion (λ (y : Entry). y.slot < 1024) xs
+  pub credits : AllByRecursion (λ (y : Entry). y.credit ≤ 65280) xs
 
 -- What the calls of the flat order keep to.
 pub record Kept (table : List Entry) (count : ℕ) : Type 0 where

@@ -3,7 +3,7 @@ use Rattle.std.specs.Prelude.{◌≡◌, ℕ, zero, suc, ◌+◌, ◌-◌, ◌<�
 use Rattle.std.proofs.Common.{sym, ap, ap₂, subst, ◌∙◌, append_assoc, arith, length-append, length-drop, length-set, length-take-le}
 use borrow.Rule.Slice.PartMut.{put_mid}
 use Rattle.std.proofs.Math.Seq.{split_at}
-use Rattle.std.specs.List.{remove, AllByRecursion as All}
+use Rattle.std.specs.List.{remove, AllByRecursion}
 use Rattle.std.proofs.ByRecursion.{All-weaker, All-push, All-append, All-get_or, All-from_get_or}
 use Rattle.std.proofs.lemmas.List.{take_more, take_more_set, take_all, take-take, take_at, drop_more, drop-drop, drop-set-lt, get_or-take, get_or-drop}
 use Rattle.std.proofs.lemmas.Slice.{between_is}
@@ -25,7 +25,7 @@ pub merged_append : (acc xs ys : List Entry) → merged acc (xs ++ ys) ≡ merge
 merged_append acc [] ys = refl
 merged_append acc (x ∷ xs) ys = merged_append (joined x acc) xs ys
 
-pub merged_all : (P : Entry → Type 0) (acc es : List Entry) → All P acc → All P es → All P (merged acc es)
+pub merged_all : (P : Entry → Type 0) (acc es : List Entry) → AllByRecursion P acc → AllByRecursion P es → AllByRecursion P (merged acc es)
 merged_all P acc [] a b = a
 merged_all P acc (e ∷ es) a b = merged_all P (joined e acc) es (join_all P e acc b.0 a) b.1
 
@@ -88,7 +88,7 @@ unfolding slots_of
 slots_once [] a = tt
 slots_once (x ∷ xs) a = (slots_holds x.slot xs ∙ a.0, slots_once xs a.1)
 
-slots_all : (xs : List Entry) → All (λ (y : Entry). y.slot < 1024) xs → All (λ y. y < 1024) (slots_of xs)
+slots_all : (xs : List Entry) → AllByRecursion (λ (y : Entry). y.slot < 1024) xs → AllByRecursion (λ y. y < 1024) (slots_of xs)
 unfolding slots_of
 slots_all [] a = tt
 slots_all (x ∷ xs) a = (a.0, slots_all xs a.1)
@@ -197,14 +197,14 @@ without_at s (x ∷ xs) (suc i) a h e =
 -- ---- expel
 
 module _ (xs : List Entry) (i : ℕ) (l : FirstLeast xs i) where
-  pub least_before : All (λ (y : Entry). (entry_at xs i).credit < y.credit) (take i xs)
+  pub least_before : AllByRecursion (λ (y : Entry). (entry_at xs i).credit < y.credit) (take i xs)
   least_before =
       let h = l.inside in
       let n : length (take i xs) ≡ i = length-take-le i xs (omega arith) in
       All-from_get_or (λ (y : Entry). (entry_at xs i).credit < y.credit) (take i xs) (entry 0 0)
       (λ k b. let m : k < i = omega arith in rw get_or-take (l.before k m))
 
-  pub least_after : All (λ (y : Entry). (entry_at xs i).credit ≤ y.credit) (drop (suc i) xs)
+  pub least_after : AllByRecursion (λ (y : Entry). (entry_at xs i).credit ≤ y.credit) (drop (suc i) xs)
   least_after =
       let h = l.inside in
       let n : length (drop (suc i) xs) ≡ length xs - suc i = length-drop (suc i) xs in

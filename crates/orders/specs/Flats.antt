@@ -1,7 +1,7 @@
 -- The entries of a row of queues: joining, taking out, falling.
 use Rattle.std.specs.Prelude.{◌≡◌, ℕ, zero, suc, ◌+◌, ◌-◌, ◌<◌, ◌≤◌, Bool, false, ◌||◌, List, [], ◌∷◌, ◌++◌, ◌==◌, ◌≢◌, nat_lt, refl}
 use Rattle.std.proofs.Common.{sym, ap, ap₂, ◌∙◌, ⊎_elim, append_assoc, arith}
-use Rattle.std.specs.List.{AllByRecursion as All}
+use Rattle.std.specs.List.{AllByRecursion}
 use Rattle.std.proofs.ByRecursion.{All-append}
 use Rattle.std.proofs.lemmas.Bool.Decides.{nat_tests}
 use Rattle.std.proofs.lemmas.Bool.{cases_eq, cases_Bool, eq-eqb, lt-ltb, le-ltb, cond-true, cond-false, or_parts}
@@ -12,13 +12,13 @@ use Rattle.orders.specs.Flat.{entry, tagged, flat}
 
 -- ---- lists of entries
 
-pub joined_past : (e : Entry) (xs ys : List Entry) → All (λ (y : Entry). y.credit ≤ e.credit) xs → joined e (xs ++ ys) ≡ xs ++ joined e ys
+pub joined_past : (e : Entry) (xs ys : List Entry) → AllByRecursion (λ (y : Entry). y.credit ≤ e.credit) xs → joined e (xs ++ ys) ≡ xs ++ joined e ys
 joined_past e [] ys a = refl
 joined_past e (x ∷ xs) ys a =
     cond-false (nat_lt e.credit x.credit) (e ∷ x ∷ (xs ++ ys)) (x ∷ joined e (xs ++ ys)) (le-ltb e.credit x.credit a.0)
     ∙ ap (λ (zs : List Entry). x ∷ zs) (joined_past e xs ys a.1)
 
-pub joined_front : (e : Entry) (ys : List Entry) → All (λ (y : Entry). e.credit < y.credit) ys → joined e ys ≡ e ∷ ys
+pub joined_front : (e : Entry) (ys : List Entry) → AllByRecursion (λ (y : Entry). e.credit < y.credit) ys → joined e ys ≡ e ∷ ys
 joined_front e [] a = refl
 joined_front e (y ∷ ys) a = cond-true (nat_lt e.credit y.credit) (e ∷ y ∷ ys) (y ∷ joined e ys) (lt-ltb e.credit y.credit a.0)
 
@@ -56,11 +56,11 @@ tagged_push : (c : ℕ) (xs : List ℕ) (x : ℕ) → tagged c (xs ++ x ∷ []) 
 tagged_push c [] x = refl
 tagged_push c (y ∷ ys) x = ap (λ (zs : List Entry). entry y c ∷ zs) (tagged_push c ys x)
 
-tagged_all : (P : Entry → Type 0) (c : ℕ) (xs : List ℕ) → All (λ x. P (entry x c)) xs → All P (tagged c xs)
+tagged_all : (P : Entry → Type 0) (c : ℕ) (xs : List ℕ) → AllByRecursion (λ x. P (entry x c)) xs → AllByRecursion P (tagged c xs)
 tagged_all P c [] a = tt
 tagged_all P c (x ∷ xs) a = (a.0, tagged_all P c xs a.1)
 
-all_true : (P : ℕ → Type 0) (xs : List ℕ) → ((x : ℕ) → P x) → All P xs
+all_true : (P : ℕ → Type 0) (xs : List ℕ) → ((x : ℕ) → P x) → AllByRecursion P xs
 all_true P [] h = tt
 all_true P (x ∷ xs) h = (h x, all_true P xs h)
 
@@ -90,14 +90,14 @@ unfolding flat
 flat_same f g c zero h = refl
 flat_same f g c (suc n) h = ap₂ (λ (xs : List ℕ) (ys : List Entry). tagged c xs ++ ys) (h c (omega arith) (omega arith)) (flat_same f g (suc c) n (λ j a b. h j (omega arith) (omega arith)))
 
-pub flat_all : (P : Entry → Type 0) (f : ℕ → List ℕ) (c n : ℕ) → ((j : ℕ) → c ≤ j → j < c + n → All (λ x. P (entry x j)) (f j)) → All P (flat f c n)
+pub flat_all : (P : Entry → Type 0) (f : ℕ → List ℕ) (c n : ℕ) → ((j : ℕ) → c ≤ j → j < c + n → AllByRecursion (λ x. P (entry x j)) (f j)) → AllByRecursion P (flat f c n)
 unfolding flat
 flat_all P f c zero h = tt
 flat_all P f c (suc n) h =
     All-append P (tagged c (f c)) (flat f (suc c) n) (tagged_all P c (f c) (h c (omega arith) (omega arith)))
     (flat_all P f (suc c) n (λ j a b. h j (omega arith) (omega arith)))
 
-pub flat_from : (d : ℕ) (f : ℕ → List ℕ) (c n : ℕ) → d ≤ c → All (λ (y : Entry). d ≤ y.credit) (flat f c n)
+pub flat_from : (d : ℕ) (f : ℕ → List ℕ) (c n : ℕ) → d ≤ c → AllByRecursion (λ (y : Entry). d ≤ y.credit) (flat f c n)
 flat_from d f c n h = flat_all (λ (y : Entry). d ≤ y.credit) f c n (λ j a b. all_true (λ x. d ≤ j) (f j) (λ x. omega arith))
 
 pub flat_without : (s : ℕ) (f : ℕ → List ℕ) (c n : ℕ) → without s (flat f c n) ≡ flat (λ j. sans s (f j)) c n

@@ -3,7 +3,7 @@ use Rattle.std.specs.Prelude.{◌≡◌, ℕ, zero, suc, ◌+◌, ◌<◌, ◌�
 use Rattle.std.proofs.Common.{sym, ap, ap₂, ◌∙◌, ⊎_elim, arith}
 use Rattle.std.proofs.Math.Bool.{Bool-set}
 use Prim.{IsProp}
-use Rattle.std.specs.List.{AllByRecursion as All}
+use Rattle.std.specs.List.{AllByRecursion}
 use Rattle.std.proofs.ByRecursion.{All-append}
 use Rattle.std.proofs.lemmas.Bool.{cases_eq, eq-eqb, ne_eqb, or_from, or_left, or_right}
 use Rattle.orders.specs.declared.Entry.{Entry}
@@ -14,9 +14,9 @@ use Rattle.orders.specs.Flats.{flat_from, tagged_waits, waits_append}
 
 -- ---- at most one proof
 
-pub all_prop : {X : Type 0} (P : X → Type 0) → ((x : X) → IsProp (P x)) → (xs : List X) → IsProp (All P xs)
+pub all_prop : {X : Type 0} (P : X → Type 0) → ((x : X) → IsProp (P x)) → (xs : List X) → IsProp (AllByRecursion P xs)
 all_prop P h [] a b = refl
-all_prop P h (x ∷ xs) a b = ap₂ (λ (u : P x) (v : All P xs). (u, v)) (h x a.0 b.0) (all_prop P h xs a.1 b.1)
+all_prop P h (x ∷ xs) a b = ap₂ (λ (u : P x) (v : AllByRecursion P xs). (u, v)) (h x a.0 b.0) (all_prop P h xs a.1 b.1)
 
 pub once_prop : (xs : List ℕ) → IsProp (Once xs)
 once_prop [] a b = refl
@@ -44,11 +44,11 @@ flat_waits_some s d f c (suc n) l h k =
 
 -- ---- sorted, and apart
 
-sorted_tagged : (c : ℕ) (xs : List ℕ) (ys : List Entry) → All (λ (y : Entry). c ≤ y.credit) ys → Sorted ys → Sorted (tagged c xs ++ ys)
+sorted_tagged : (c : ℕ) (xs : List ℕ) (ys : List Entry) → AllByRecursion (λ (y : Entry). c ≤ y.credit) ys → Sorted ys → Sorted (tagged c xs ++ ys)
 sorted_tagged c [] ys a s = s
 sorted_tagged c (x ∷ xs) ys a s =
     (All-append (λ (y : Entry). c ≤ y.credit) (tagged c xs) ys (same c xs) a, sorted_tagged c xs ys a s) where
-      same : (c : ℕ) (xs : List ℕ) → All (λ (y : Entry). c ≤ y.credit) (tagged c xs)
+      same : (c : ℕ) (xs : List ℕ) → AllByRecursion (λ (y : Entry). c ≤ y.credit) (tagged c xs)
       same c [] = tt
       same c (x ∷ xs) = (omega arith, same c xs)
 
@@ -75,7 +75,7 @@ flat_apart f c (suc n) o h =
 
 -- ---- due
 
-pub none_due : (xs : List Entry) → All (λ (y : Entry). 1 ≤ y.credit) xs → some_due xs ≡ false
+pub none_due : (xs : List Entry) → AllByRecursion (λ (y : Entry). 1 ≤ y.credit) xs → some_due xs ≡ false
 none_due [] a = refl
 none_due (x ∷ xs) a = let l : 1 ≤ x.credit = a.0 in or_from (x.credit == 0) (some_due xs) (ne_eqb x.credit 0 (omega arith)) (none_due xs a.1)
 

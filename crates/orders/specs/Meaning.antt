@@ -1,6 +1,6 @@
 -- The meaning of an order: its size, its span, and who waits.
 use Rattle.std.specs.Prelude.{◌≡◌, ℕ, ◌-◌, ◌<◌, ◌≤◌, Bool, false, cond, not, ◌&&◌, ◌||◌, List, [], ◌∷◌, Some, None, Option, ◌==◌, nat_le, nat_lt}
-use Rattle.std.specs.List.{AllByRecursion as All}
+use Rattle.std.specs.List.{AllByRecursion}
 use Rattle.orders.specs.declared.Entry.{Entry}
 use Rattle.orders.specs.declared.Expelled.{Expelled}
 
@@ -69,7 +69,7 @@ emptied m = holding m []
 -- The least credit first.
 abbrev pub Sorted : List Entry → Type 0
 Sorted [] = Unit {0}
-Sorted (x ∷ xs) = All (λ (y : Entry). x.credit ≤ y.credit) xs × Sorted xs
+Sorted (x ∷ xs) = AllByRecursion (λ (y : Entry). x.credit ≤ y.credit) xs × Sorted xs
 
 -- No slot twice.
 abbrev pub Apart : List Entry → Type 0
@@ -80,5 +80,5 @@ Apart (x ∷ xs) = (waits x.slot xs ≡ false) × Apart xs
 pub record Lawful (m : OrderMeaning) : Type 0 where
   pub sorted : Sorted m.waiting
   pub apart : Apart m.waiting
-  pub slots : All (λ (y : Entry). y.slot < m.size) m.waiting
-  pub credits : All (λ (y : Entry). y.credit ≤ m.span) m.waiting
+  pub slots : AllByRecursion (λ (y : Entry). y.slot < m.size) m.waiting
+  pub credits : AllByRecursion (λ (y : Entry). y.credit ≤ m.span) m.waiting

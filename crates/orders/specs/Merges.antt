@@ -1,7 +1,7 @@
 -- Lists of entries that are merged, credit by credit.
 use Rattle.std.specs.Prelude.{◌≡◌, ℕ, ◌+◌, ◌-◌, ◌*◌, ◌<◌, ◌≤◌, Bool, true, false, cond, ◌||◌, List, [], ◌∷◌, ◌==◌, ◌≢◌, nat_lt, slice_set, refl}
 use Rattle.std.proofs.Common.{sym, ap, ap₂, subst, ◌∙◌, ⊎_elim, arith}
-use Rattle.std.specs.List.{AllByRecursion as All}
+use Rattle.std.specs.List.{AllByRecursion}
 use Rattle.std.proofs.ByRecursion.{All-weaker}
 use Rattle.std.proofs.lemmas.List.{get_or-set_other}
 use Rattle.std.proofs.lemmas.Bool.Decides.{nat_tests}
@@ -21,11 +21,11 @@ join_here e x xs h = cond-true (nat_lt e.credit x.credit) (e ∷ x ∷ xs) (x �
 pub join_past : (e x : Entry) (xs : List Entry) → x.credit ≤ e.credit → joined e (x ∷ xs) ≡ x ∷ joined e xs
 join_past e x xs h = cond-false (nat_lt e.credit x.credit) (e ∷ x ∷ xs) (x ∷ joined e xs) (le-ltb e.credit x.credit h)
 
-pub join_all : (P : Entry → Type 0) (e : Entry) (xs : List Entry) → P e → All P xs → All P (joined e xs)
+pub join_all : (P : Entry → Type 0) (e : Entry) (xs : List Entry) → P e → AllByRecursion P xs → AllByRecursion P (joined e xs)
 join_all P e [] p a = (p, tt)
 join_all P e (x ∷ xs) p a = ⊎_elim
-    (λ h. subst (All P) (sym (join_here e x xs h)) (p, a))
-    (λ h. subst (All P) (sym (join_past e x xs h)) (a.0, join_all P e xs p a.1))
+    (λ h. subst (AllByRecursion P) (sym (join_here e x xs h)) (p, a))
+    (λ h. subst (AllByRecursion P) (sym (join_past e x xs h)) (a.0, join_all P e xs p a.1))
     (cases_lt e.credit x.credit)
 
 pub join_sorted : (e : Entry) (xs : List Entry) → Sorted xs → Sorted (joined e xs)
@@ -86,11 +86,11 @@ drop_same s x xs h = cond-true (x.slot == s) (without s xs) (x ∷ without s xs)
 pub drop_else : (s : ℕ) (x : Entry) (xs : List Entry) → (x.slot ≢ s) → without s (x ∷ xs) ≡ x ∷ without s xs
 drop_else s x xs h = cond-false (x.slot == s) (without s xs) (x ∷ without s xs) (ne_eqb x.slot s h)
 
-pub without_all : (P : Entry → Type 0) (s : ℕ) (xs : List Entry) → All P xs → All P (without s xs)
+pub without_all : (P : Entry → Type 0) (s : ℕ) (xs : List Entry) → AllByRecursion P xs → AllByRecursion P (without s xs)
 without_all P s [] a = tt
 without_all P s (x ∷ xs) a = ⊎_elim
-    (λ h. subst (All P) (sym (drop_same s x xs h)) (without_all P s xs a.1))
-    (λ h. subst (All P) (sym (drop_else s x xs h)) (a.0, without_all P s xs a.1))
+    (λ h. subst (AllByRecursion P) (sym (drop_same s x xs h)) (without_all P s xs a.1))
+    (λ h. subst (AllByRecursion P) (sym (drop_else s x xs h)) (a.0, without_all P s xs a.1))
     (cases_eq x.slot s)
 
 pub without_sorted : (s : ℕ) (xs : List Entry) → Sorted xs → Sorted (without s xs)
@@ -143,7 +143,7 @@ pub fallen_waits : (s d : ℕ) (xs : List Entry) → waits s (fallen d xs) ≡ w
 fallen_waits s d [] = refl
 fallen_waits s d (x ∷ xs) = ap (λ (b : Bool). (x.slot == s) || b) (fallen_waits s d xs)
 
-pub fallen_all : (P Q : Entry → Type 0) (d : ℕ) (xs : List Entry) → ((y : Entry) → P y → Q (entry y.slot (y.credit - d))) → All P xs → All Q (fallen d xs)
+pub fallen_all : (P Q : Entry → Type 0) (d : ℕ) (xs : List Entry) → ((y : Entry) → P y → Q (entry y.slot (y.credit - d))) → AllByRecursion P xs → AllByRecursion Q (fallen d xs)
 fallen_all P Q d [] f a = tt
 fallen_all P Q d (x ∷ xs) f a = (f x a.0, fallen_all P Q d xs f a.1)
 
@@ -189,7 +189,7 @@ pub merged_due : (acc es : List Entry) → some_due (merged acc es) ≡ (some_du
 merged_due acc [] = grind (arith, nat_tests)
 merged_due acc (e ∷ es) = merged_due (joined e acc) es ∙ ap (λ (b : Bool). b || some_due es) (join_due e acc) ∙ grind (arith, nat_tests)
 
-pub merged_join : (e : Entry) (acc es : List Entry) → All (λ (y : Entry). e.credit < y.credit) es → merged (joined e acc) es ≡ joined e (merged acc es)
+pub merged_join : (e : Entry) (acc es : List Entry) → AllByRecursion (λ (y : Entry). e.credit < y.credit) es → merged (joined e acc) es ≡ joined e (merged acc es)
 merged_join e acc [] a = refl
 merged_join e acc (y ∷ es) a = ap (λ (zs : List Entry). merged zs es) (join_swap e y acc a.0) ∙ merged_join e (joined y acc) es a.1
 
@@ -216,14 +216,14 @@ due_none [] h = tt
 due_none (x ∷ xs) h = let p = or_parts (x.credit == 0) (some_due xs) h in let n = eqb-false x.credit 0 p.0 in (omega arith, due_none xs p.1)
 
 -- each of a list waits in it
-all_waits : (xs : List Entry) → All (λ (y : Entry). waits y.slot xs ≡ true) xs
+all_waits : (xs : List Entry) → AllByRecursion (λ (y : Entry). waits y.slot xs ≡ true) xs
 all_waits [] = tt
 all_waits (x ∷ xs) = (
   or_left (x.slot == x.slot) (waits x.slot xs) (eq-eqb x.slot x.slot refl),
   All-weaker (λ (y : Entry). waits y.slot xs ≡ true) (λ (y : Entry). waits y.slot (x ∷ xs) ≡ true) (λ y k. or_right (x.slot == y.slot) (waits y.slot xs) k) xs (all_waits xs),
 )
 
-pub all_who : (P : ℕ → Type 0) (xs : List Entry) → ((s : ℕ) → waits s xs ≡ true → P s) → All (λ (y : Entry). P y.slot) xs
+pub all_who : (P : ℕ → Type 0) (xs : List Entry) → ((s : ℕ) → waits s xs ≡ true → P s) → AllByRecursion (λ (y : Entry). P y.slot) xs
 all_who P xs f = All-weaker (λ (y : Entry). waits y.slot xs ≡ true) (λ (y : Entry). P y.slot) (λ y k. f y.slot k) xs (all_waits xs)
 
 module _ (p : ℕ) (later : List ℕ) where
@@ -263,8 +263,8 @@ module _ (p : ℕ) (later : List ℕ) where
       ap₂ (λ (k : ℕ) (zs : List Entry). entry e.slot k ∷ zs) g (lift_down b es h a.1)
 
   -- a lifted list over a credit below
-  lift_above : (e : Entry) (es : List Entry) → p < 256 → 1 ≤ e.credit → at later e.slot < 256 → All (λ (y : Entry). e.credit < y.credit) es →
-      All (λ (y : Entry). (lifted p later e).credit < y.credit) (lift p later es)
+  lift_above : (e : Entry) (es : List Entry) → p < 256 → 1 ≤ e.credit → at later e.slot < 256 → AllByRecursion (λ (y : Entry). e.credit < y.credit) es →
+      AllByRecursion (λ (y : Entry). (lifted p later e).credit < y.credit) (lift p later es)
   lift_above e [] h c r a = tt
   lift_above e (y ∷ es) h c r a = let l : e.credit < y.credit = a.0 in (omega arith, lift_above e es h c r a.1)
 

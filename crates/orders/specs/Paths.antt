@@ -1,7 +1,7 @@
 -- Paths through a table of successors, when a node joins and when one goes.
 use Rattle.std.specs.Prelude.{◌≡◌, ℕ, ◌<◌, ◌≤◌, cond, List, [], ◌∷◌, ◌++◌, ◌==◌, ◌≢◌}
 use Rattle.std.proofs.Common.{sym, subst, ◌∙◌, ⊎_elim, arith}
-use Rattle.std.specs.List.{AllByRecursion as All}
+use Rattle.std.specs.List.{AllByRecursion}
 use Rattle.std.proofs.lemmas.Bool.{cases_eq, eq-eqb, ne_eqb, cond-true, cond-false}
 use Rattle.orders.specs.Rings.{Path, sans}
 
@@ -18,7 +18,7 @@ module _ (f f' g : ℕ → ℕ) (l x b : ℕ) (inv : (i : ℕ) → i < 1280 → 
   not_x : (a y : ℕ) → a < 1280 → (a ≢ x) → f a ≡ y → y ≢ x
   not_x a y h n e k = let p = inv a h in let q : g (f x) ≡ x = inv x (omega arith) in let r : a ≡ x = cc in n r
 
-  pub push_here : (xs : List ℕ) (a : ℕ) → a < 1280 → (a ≢ x) → All (λ y. y < 1024) xs → 1024 ≤ b → Path f a xs b → Path f' a (xs ++ x ∷ []) b
+  pub push_here : (xs : List ℕ) (a : ℕ) → a < 1280 → (a ≢ x) → AllByRecursion (λ y. y < 1024) xs → 1024 ≤ b → Path f a xs b → Path f' a (xs ++ x ∷ []) b
   push_here [] a h n s bb p =
       let u = inv a h in
       let v = inv l l-in in
@@ -29,7 +29,7 @@ module _ (f f' g : ℕ → ℕ) (l x b : ℕ) (inv : (i : ℕ) → i < 1280 → 
       let lo : y < 1024 = s.0 in
       (fo a (λ k. let z : y ≡ b = cc in omega arith) n ∙ e, push_here ys y (omega arith) (not_x a y h n e) s.1 bb p.1)
 
-  pub push_other : (xs : List ℕ) (a c : ℕ) → a < 1280 → (a ≢ x) → All (λ y. y < 1024) xs → 1024 ≤ b → (c ≢ b) → Path f a xs c → Path f' a xs c
+  pub push_other : (xs : List ℕ) (a c : ℕ) → a < 1280 → (a ≢ x) → AllByRecursion (λ y. y < 1024) xs → 1024 ≤ b → (c ≢ b) → Path f a xs c → Path f' a xs c
   push_other [] a c h n s bb d p = fo a (λ k. let z : c ≡ b = cc in d z) n ∙ p
   push_other (y ∷ ys) a c h n s bb d p =
       let e : f a ≡ y = p.0 in
@@ -59,7 +59,7 @@ module _ (f f' g : ℕ → ℕ) (p x n : ℕ) (inv : (i : ℕ) → i < 1280 → 
       (λ k. let t = here_other a k in let u : f' a ≡ f a = fo a (λ z. let w : y ≡ x = cc in d w) k in cc)
       (cases_eq a x)
 
-  pub out : (xs : List ℕ) (a b : ℕ) → a < 1280 → All (λ y. y < 1024) xs → 1024 ≤ b → Path f a xs b → Path f' (here a) (sans x xs) b
+  pub out : (xs : List ℕ) (a b : ℕ) → a < 1280 → AllByRecursion (λ y. y < 1024) xs → 1024 ≤ b → Path f a xs b → Path f' (here a) (sans x xs) b
   out [] a b h s bb e = moved a b h e (omega arith)
   out (y ∷ ys) a b h s bb e =
       let ey : f a ≡ y = e.0 in

@@ -1,6 +1,6 @@
 -- Rings of nodes through a table of successors: node 1024 + q is the anchor of queue q, and nodes below 1024 are slots.
 use Rattle.std.specs.Prelude.{◌≡◌, ℕ, zero, suc, ◌+◌, ◌<◌, ◌≤◌, Bool, false, cond, ◌||◌, List, [], ◌∷◌, length, ◌==◌, nat_lt, slice_index}
-use Rattle.std.specs.List.{AllByRecursion as All}
+use Rattle.std.specs.List.{AllByRecursion}
 
 -- From node a the slots of the list follow one another, and then node b.
 abbrev pub Path : (ℕ → ℕ) → ℕ → List ℕ → ℕ → Type 0
@@ -47,6 +47,6 @@ pub record Rings (next prev home : List ℕ) (qs : ℕ → List ℕ) : Type 0 wh
   pub forth : (i : ℕ) → i < 1280 → at next (at prev i) ≡ i
   pub idle : (x : ℕ) → x < 1024 → 256 ≤ at home x → at next x ≡ x
   pub ring : (q : ℕ) → q < 256 → Path (at next) (1024 + q) (qs q) (1024 + q)
-  pub slots : (q : ℕ) → q < 256 → All (λ x. x < 1024) (qs q)
+  pub slots : (q : ℕ) → q < 256 → AllByRecursion (λ x. x < 1024) (qs q)
   pub once : (q : ℕ) → q < 256 → Once (qs q)
   pub member : (q x : ℕ) → q < 256 → x < 1024 → holds x (qs q) ≡ (at home x == q)

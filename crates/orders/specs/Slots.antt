@@ -2,7 +2,7 @@
 use Rattle.std.specs.Prelude.{◌≡◌, ℕ, zero, suc, ◌<◌, ◌≤◌, false, cond, ◌||◌, List, [], ◌∷◌, ◌++◌, length, ◌==◌, nat_lt}
 use Rattle.std.proofs.Math.Path.{refl}
 use Rattle.std.proofs.Common.{sym, ap, subst, ◌∙◌, ⊎_elim, arith}
-use Rattle.std.specs.List.{AllByRecursion as All}
+use Rattle.std.specs.List.{AllByRecursion}
 use Rattle.std.proofs.lemmas.Bool.Decides.{nat_tests}
 use Rattle.std.proofs.lemmas.Bool.{cases_eq, ne_eqb, lt-ltb, le-ltb, cond-true, cond-false, or_parts, eqb-false}
 use Rattle.orders.specs.Rings.{Path, walk, sans, holds, Once}
@@ -28,12 +28,12 @@ once_push (y ∷ ys) x o h =
     let o0 : holds y ys ≡ false = o.0 in
     ((grind (arith, nat_tests)), once_push ys x o.1 p.1)
 
-pub all_sans : (P : ℕ → Type 0) (x : ℕ) (xs : List ℕ) → All P xs → All P (sans x xs)
+pub all_sans : (P : ℕ → Type 0) (x : ℕ) (xs : List ℕ) → AllByRecursion P xs → AllByRecursion P (sans x xs)
 all_sans P x [] a = tt
 all_sans P x (y ∷ ys) a =
     ⊎_elim
-    (λ k. subst (All P) (sym (sans_same x y ys k)) (all_sans P x ys a.1))
-    (λ k. subst (All P) (sym (sans_other x y ys k)) (a.0, all_sans P x ys a.1))
+    (λ k. subst (AllByRecursion P) (sym (sans_same x y ys k)) (all_sans P x ys a.1))
+    (λ k. subst (AllByRecursion P) (sym (sans_other x y ys k)) (a.0, all_sans P x ys a.1))
     (cases_eq y x)
 
 pub once_sans : (x : ℕ) (xs : List ℕ) → Once xs → Once (sans x xs)
@@ -59,16 +59,16 @@ length_sans x (y ∷ ys) o =
     (λ k. let e = sans_other x y ys k in let m = length_sans x ys o.1 in rw e (omega arith))
     (cases_eq y x)
 
-below_sans : (m : ℕ) (xs : List ℕ) → All (λ y. y < suc m) xs → All (λ y. y < m) (sans m xs)
+below_sans : (m : ℕ) (xs : List ℕ) → AllByRecursion (λ y. y < suc m) xs → AllByRecursion (λ y. y < m) (sans m xs)
 below_sans m [] a = tt
 below_sans m (y ∷ ys) a =
     ⊎_elim
-    (λ k. subst (All (λ y. y < m)) (sym (sans_same m y ys k)) (below_sans m ys a.1))
-    (λ k. let l : y < suc m = a.0 in subst (All (λ y. y < m)) (sym (sans_other m y ys k)) ((omega arith), below_sans m ys a.1))
+    (λ k. subst (AllByRecursion (λ y. y < m)) (sym (sans_same m y ys k)) (below_sans m ys a.1))
+    (λ k. let l : y < suc m = a.0 in subst (AllByRecursion (λ y. y < m)) (sym (sans_other m y ys k)) ((omega arith), below_sans m ys a.1))
     (cases_eq y m)
 
 -- as many slots as there are, at most
-pub once_short : (m : ℕ) (xs : List ℕ) → Once xs → All (λ y. y < m) xs → length xs ≤ m
+pub once_short : (m : ℕ) (xs : List ℕ) → Once xs → AllByRecursion (λ y. y < m) xs → length xs ≤ m
 once_short zero [] o a = omega arith
 once_short zero (y ∷ ys) o a = let l : y < 0 = a.0 in omega arith
 once_short (suc m) xs o a = let s = length_sans m xs o in let h = once_short m (sans m xs) (once_sans m xs o) (below_sans m xs a) in omega arith
@@ -83,7 +83,7 @@ module _ (f : ℕ → ℕ) where
   unfolding walk
   walk_more k y h = cond-true (nat_lt y 1024) (y ∷ walk k f (f y)) [] (lt-ltb y 1024 h)
 
-  pub walk_path : (k : ℕ) (xs : List ℕ) (a b : ℕ) → All (λ y. y < 1024) xs → 1024 ≤ b → length xs ≤ k → Path f a xs b → walk k f (f a) ≡ xs
+  pub walk_path : (k : ℕ) (xs : List ℕ) (a b : ℕ) → AllByRecursion (λ y. y < 1024) xs → 1024 ≤ b → length xs ≤ k → Path f a xs b → walk k f (f a) ≡ xs
   walk_path k [] a b s bb l p = ap (walk k f) p ∙ walk_end k b bb
   walk_path zero (y ∷ ys) a b s bb l p = absurd (omega arith)
   walk_path (suc k) (y ∷ ys) a b s bb l p =

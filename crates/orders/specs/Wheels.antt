@@ -1,6 +1,6 @@
 -- A wheel over another order.
 use Rattle.std.specs.Prelude.{◌≡◌, ℕ, ◌+◌, ◌-◌, ◌*◌, ◌<◌, ◌≤◌, min, false, List, [], ◌∷◌, length, nat_lt}
-use Rattle.std.specs.List.{AllByRecursion as All}
+use Rattle.std.specs.List.{AllByRecursion}
 use Rattle.orders.specs.declared.Entry.{Entry}
 use Rattle.orders.specs.Meaning.{OrderMeaning, Lawful, joined, waits, some_due}
 use Rattle.orders.specs.Rings.{queue, at}
@@ -42,7 +42,7 @@ wheel next p later m = record {
 
 -- Every credit is at least c.
 abbrev pub Over : ℕ → List Entry → Type 0
-Over c xs = All (λ (y : Entry). c ≤ y.credit) xs
+Over c xs = AllByRecursion (λ (y : Entry). c ≤ y.credit) xs
 
 -- How the wheel's own queues, what it remembers and the order below hang together: the queues before the hand are empty, a queue is
 -- remembered of exactly the slots that wait below, and those stand in no queue of the wheel's own.

@@ -1,6 +1,6 @@
 -- The credit of each slot, after one is placed, withdrawn or expelled.
 use Rattle.std.proofs.Common.{◌≡◌, ℕ, ◌-◌, ◌<◌, ◌≤◌, true, false, cond, ◌||◌, eqb, ltb, ◌⊎◌, List, [], ◌∷◌, is_some, Some, None, Option, sym, refl, ap, ◌∙◌, inl, inr, ⊎_elim, arith}
-use Rattle.std.specs.List.{AllByRecursion as All}
+use Rattle.std.specs.List.{AllByRecursion}
 use Rattle.std.proofs.lemmas.Bool.{cases_Bool, eq-eqb, ne_eqb, eqb-true, eqb-false, cond-true, cond-false, or_parts}
 use Rattle.orders.specs.declared.Entry.{Entry}
 use Rattle.orders.specs.declared.Expelled.{Expelled}
@@ -100,7 +100,7 @@ rest_at (x ∷ xs) f j e ne =
     fallen_at x.credit xs j ∙ ap (λ (d : ℕ). less d (credit_at xs j)) q.1
     ∙ ap (less f.credit) (sym (cond-false (eqb x.slot j) (Some x.credit) (credit_at xs j) (ne_eqb x.slot j (λ t. ne (sym t ∙ q.0)))))
 
-all_credits : (d : ℕ) (xs : List Entry) → All (λ (y : Entry). d ≤ y.credit) xs → (j r : ℕ) → credit_at xs j ≡ Some r → d ≤ r
+all_credits : (d : ℕ) (xs : List Entry) → AllByRecursion (λ (y : Entry). d ≤ y.credit) xs → (j r : ℕ) → credit_at xs j ≡ Some r → d ≤ r
 all_credits d [] a j r e = absurd (none_some r e)
 all_credits d (x ∷ xs) a j r e = ⊎_elim
     (λ p. let z = some_eq x.credit r (sym (cond-true _ (Some x.credit) (credit_at xs j) p) ∙ e) in let y = a.0 in omega arith)

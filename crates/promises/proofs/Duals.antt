@@ -1,7 +1,7 @@
 -- What each call leaves, over the seats: the state after it, and GreedyDual after the same use.
 use Rattle.std.proofs.Common.{◌≡◌, ℕ, suc, ◌+◌, ◌<◌, ◌≤◌, Bool, true, false, not, List, [], ◌∷◌, ◌++◌, map, length, is_some, Some, None, Option, sym, refl, ap, ◌∙◌, subst, ap₂, ⊎_elim, arith, length-set, get_or-set_other, get_or-set_same}
 use Rattle.std.specs.Option.{option_map}
-use Rattle.std.specs.List.{AllByRecursion as All}
+use Rattle.std.specs.List.{AllByRecursion}
 use Rattle.std.proofs.lemmas.Bool.{cases_eq, cases_Bool, cond-true, cond-false}
 use Rattle.keys.specs.Sameness.{SameLaws}
 use Rattle.orders.specs.declared.Entry.{Entry}
@@ -31,7 +31,7 @@ module _ {K : Type 0} (same : K → K → Bool) where
     pub rank : Option ℕ
     pub fits : Fits s i key cost rank
     pub sitting : sits i xs ≡ true
-    pub marked : All (Marks same k i) xs
+    pub marked : AllByRecursion (Marks same k i) xs
     pub region_is : region_of same k g.regions ≡ Some (region (seat i key cost rank))
     pub others_is : others same key g.regions ≡ map region (sans i xs)
 
@@ -142,7 +142,7 @@ module _ {K : Type 0} (same : K → K → Bool) where
       (λ t. let f = seat_found (Seated s) i xs t h.seated in let q : key_at s.directory i ≡ Some f.key = f.has.key in let z : ◌≡◌ {A = ℕ} 0 1 = cc in absurd (omega arith))
       (λ t. t) (cases_Bool (sits i xs))
 
-  pub enters : (s : State K) (n : ℕ) (g : Dual K) (xs : List (Seat K)) (k : K) (i c m : ℕ) → Tracks s n g xs → All (Differs same k) xs → i < slots s → key_at s.directory i ≡ None
+  pub enters : (s : State K) (n : ℕ) (g : Dual K) (xs : List (Seat K)) (k : K) (i c m : ℕ) → Tracks s n g xs → AllByRecursion (Differs same k) xs → i < slots s → key_at s.directory i ≡ None
       → i < s.order.size → i < length s.table.records → 1 ≤ c → c ≤ s.order.span → (ys : List (Seat K)) × Tracks (settled (with_key s i k) i c m) n (touch same g k c) ys
   enters s n g xs k i c m h d b e small long lo hi =
       let u = unseated s xs i h.holds e in

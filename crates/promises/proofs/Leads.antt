@@ -1,7 +1,7 @@
 -- The first of least rank: the region that GreedyDual evicts is at the slot that leaves the order.
 use Rattle.std.proofs.Common.{◌≡◌, ℕ, ◌-◌, ◌<◌, ◌≤◌, Bool, cond, leb, List, [], ◌∷◌, map, Some, None, Option, sym, refl, ap, ◌∙◌, subst, ⊎_elim, arith}
 use Rattle.std.specs.Option.{option_map}
-use Rattle.std.specs.List.{AllByRecursion as All}
+use Rattle.std.specs.List.{AllByRecursion}
 use Rattle.std.proofs.ByRecursion.{All-weaker}
 use Rattle.std.proofs.lemmas.Bool.{cases_Bool, cases_lt, le-leb, lt-leb, cond-true, cond-false}
 use Rattle.orders.specs.declared.Entry.{Entry}
@@ -47,13 +47,13 @@ module _ {K : Type 0} where
       (λ h. let w = better_here f x h in let z : f ≡ q = cc in subst P z p)
       (cases_lt x.rank f.rank)
 
-  pub lead_has : (P : Seat K → Type 0) (xs : List (Seat K)) → All P xs → (f : First K) → lead xs ≡ Some f → P (sat f)
+  pub lead_has : (P : Seat K → Type 0) (xs : List (Seat K)) → AllByRecursion P xs → (f : First K) → lead xs ≡ Some f → P (sat f)
   lead_has P [] a f e = let z : ◌≡◌ {A = ℕ} 0 1 = cc in absurd (omega arith)
   lead_has P (seat i k c None ∷ xs) a f e = lead_has P xs a.1 f e
   lead_has P (seat i k c (Some r) ∷ xs) a f e = better_has (λ (q : First K). P (sat q)) (record { slot = i; key = k; cost = c; rank = r }) (lead xs) a.0 (λ q. lead_has P xs a.1 q) f e
 
   -- and none has less
-  none_ranked : (n : ℕ) (xs : List (Seat K)) → lead xs ≡ None → All (Ranked n) xs
+  none_ranked : (n : ℕ) (xs : List (Seat K)) → lead xs ≡ None → AllByRecursion (Ranked n) xs
   none_ranked n [] e = tt
   none_ranked n (seat i k c None ∷ xs) e = (tt, none_ranked n xs e)
   none_ranked n (seat i k c (Some r) ∷ xs) e = absurd (never (record { slot = i; key = k; cost = c; rank = r }) (lead xs) e)
@@ -69,7 +69,7 @@ module _ {K : Type 0} where
   weaker m n h (seat i k c None) a = tt
   weaker m n h (seat i k c (Some r)) a = let l : n ≤ r = a in omega arith
 
-  pub lead_ranked : (xs : List (Seat K)) (f : First K) → lead xs ≡ Some f → All (Ranked f.rank) xs
+  pub lead_ranked : (xs : List (Seat K)) (f : First K) → lead xs ≡ Some f → AllByRecursion (Ranked f.rank) xs
   lead_ranked [] f e = tt
   lead_ranked (seat i k c None ∷ xs) f e = (tt, lead_ranked xs f e)
   lead_ranked (seat i k c (Some r) ∷ xs) f e = by (lead xs) refl (lead_ranked xs) e
@@ -77,7 +77,7 @@ module _ {K : Type 0} where
       x : First K
       x = record { slot = i; key = k; cost = c; rank = r }
 
-      by : (o : Option (First K)) → lead xs ≡ o → ((q : First K) → lead xs ≡ Some q → All (Ranked q.rank) xs) → better x o ≡ Some f → (f.rank ≤ r) × All (Ranked f.rank) xs
+      by : (o : Option (First K)) → lead xs ≡ o → ((q : First K) → lead xs ≡ Some q → AllByRecursion (Ranked q.rank) xs) → better x o ≡ Some f → (f.rank ≤ r) × AllByRecursion (Ranked f.rank) xs
       by None p g h = let z : r ≡ f.rank = cc in (omega arith, none_ranked f.rank xs p)
       by (Some q) p g h = ⊎_elim
           (λ l. let w = better_past x q l in let z : q.rank ≡ f.rank = cc in
@@ -118,7 +118,7 @@ module _ {K : Type 0} where
       (λ p. cond-true (leb (f.rank - l) (q.rank - l)) (Some (expels l f)) (Some (expels l q)) (le-leb (f.rank - l) (q.rank - l) (omega arith)) ∙ ap (option_map (expels l)) (sym (better_here f q p)))
       (cases_lt q.rank f.rank)
 
-  leaver_merged : (l : ℕ) (xs : List (Seat K)) (acc : List Entry) → All (Ranked l) xs → leaver (merged acc (queue l xs)) ≡ sooner (leaver acc) (option_map (expels l) (lead xs))
+  leaver_merged : (l : ℕ) (xs : List (Seat K)) (acc : List Entry) → AllByRecursion (Ranked l) xs → leaver (merged acc (queue l xs)) ≡ sooner (leaver acc) (option_map (expels l) (lead xs))
   leaver_merged l [] acc a = none (leaver acc)
     where
       none : (o : Option Expelled) → o ≡ sooner o None
@@ -133,5 +133,5 @@ module _ {K : Type 0} where
       ∙ ap (sooner (leaver acc)) (sooner_better l x (lead xs) a.0 (λ q e. lead_has (Ranked l) xs a.1 q e))
 
   -- the first of the order is the first of least rank
-  pub leaver_lead : (l : ℕ) (xs : List (Seat K)) → All (Ranked l) xs → leaver (merged [] (queue l xs)) ≡ option_map (expels l) (lead xs)
+  pub leaver_lead : (l : ℕ) (xs : List (Seat K)) → AllByRecursion (Ranked l) xs → leaver (merged [] (queue l xs)) ≡ option_map (expels l) (lead xs)
   leaver_lead l xs a = leaver_merged l xs [] a

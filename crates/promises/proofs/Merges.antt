@@ -1,6 +1,6 @@
 -- Entries that join an empty order one after the other: who goes, who falls, and who is first.
 use Rattle.std.proofs.Common.{◌≡◌, ℕ, ◌-◌, ◌<◌, ◌≤◌, Bool, false, cond, ◌||◌, eqb, ltb, leb, List, [], ◌∷◌, ◌++◌, Some, None, Option, sym, refl, ap, ◌∙◌, subst, ap₂, ⊎_elim, arith}
-use Rattle.std.specs.List.{AllByRecursion as All}
+use Rattle.std.specs.List.{AllByRecursion}
 use Rattle.std.proofs.ByRecursion.{All-weaker}
 use Rattle.std.proofs.lemmas.Bool.Decides.{nat_tests}
 use Rattle.std.proofs.lemmas.Bool.{cases_eq, cases_lt, le-leb, lt-leb, cond-true, cond-false, or_parts, lt-ltb}
@@ -13,7 +13,7 @@ abbrev pub entry : ℕ → ℕ → Entry
 entry s c = record { slot = s; credit = c }
 
 abbrev pub Over : ℕ → List Entry → Type 0
-Over c xs = All (λ (y : Entry). c ≤ y.credit) xs
+Over c xs = AllByRecursion (λ (y : Entry). c ≤ y.credit) xs
 
 -- the entries join one after the other
 abbrev pub merged : List Entry → List Entry → List Entry
@@ -44,7 +44,7 @@ rest_without (x ∷ xs) f a e =
     let q : x.credit ≡ f.credit = ap (λ (o : Option Expelled). elim o [ None ↦ 0 | Some y ↦ y.credit ]) e in
     ap₂ fallen q (sym (drop_same f.slot x xs p ∙ without_absent f.slot xs (subst (λ (n : ℕ). waits n xs ≡ false) p a.0)))
 
-joined_front : (e : Entry) (ys : List Entry) → All (λ (y : Entry). e.credit < y.credit) ys → joined e ys ≡ e ∷ ys
+joined_front : (e : Entry) (ys : List Entry) → AllByRecursion (λ (y : Entry). e.credit < y.credit) ys → joined e ys ≡ e ∷ ys
 joined_front e [] a = refl
 joined_front e (y ∷ ys) a = cond-true (ltb e.credit y.credit) (e ∷ y ∷ ys) (y ∷ joined e ys) (lt-ltb e.credit y.credit a.0)
 

@@ -1,6 +1,6 @@
 -- Seats: the slots that are held, the least recently touched first, each with its key, its cost, and its rank while it waits.
 use Rattle.std.proofs.Common.{◌≡◌, ℕ, suc, ◌-◌, ◌≤◌, Bool, true, false, cond, ◌||◌, eqb, List, [], ◌∷◌, ◌++◌, length, Some, None, Option, sym, refl, ap, ◌∙◌, subst, ap₂, ⊎_elim, arith}
-use Rattle.std.specs.List.{AllByRecursion as All}
+use Rattle.std.specs.List.{AllByRecursion}
 use Rattle.std.proofs.lemmas.Bool.Decides.{nat_tests}
 use Rattle.std.proofs.lemmas.Bool.{cases_eq, both_ways, eq-eqb, ne_eqb, eqb-false, cond-true, cond-false, or_parts, or_from}
 use Rattle.orders.specs.declared.Entry.{Entry}
@@ -64,11 +64,11 @@ module _ {K : Type 0} where
   sans_else i j k c r xs h = cond-false (eqb j i) (sans i xs) (seat j k c r ∷ sans i xs) (ne_eqb j i h)
 
   pub all_sans : (P Q : Seat K → Type 0) (i : ℕ) → ((j : ℕ) (k : K) (c : ℕ) (r : Option ℕ) → (j ≡ i → ⊥) → P (seat j k c r) → Q (seat j k c r))
-      → (xs : List (Seat K)) → All P xs → All Q (sans i xs)
+      → (xs : List (Seat K)) → AllByRecursion P xs → AllByRecursion Q (sans i xs)
   all_sans P Q i f [] a = tt
   all_sans P Q i f (seat j k c r ∷ xs) a = ⊎_elim
-      (λ h. subst (All Q) (sym (sans_same i j k c r xs h)) (all_sans P Q i f xs a.1))
-      (λ h. subst (All Q) (sym (sans_else i j k c r xs h)) (f j k c r h a.0, all_sans P Q i f xs a.1))
+      (λ h. subst (AllByRecursion Q) (sym (sans_same i j k c r xs h)) (all_sans P Q i f xs a.1))
+      (λ h. subst (AllByRecursion Q) (sym (sans_else i j k c r xs h)) (f j k c r h a.0, all_sans P Q i f xs a.1))
       (cases_eq j i)
 
   pub sits_sans : (i h : ℕ) (xs : List (Seat K)) → sits h (sans i xs) ≡ cond (eqb h i) false (sits h xs)
@@ -135,7 +135,7 @@ module _ {K : Type 0} where
   queue_fallen l n (seat j k c None ∷ xs) h = queue_fallen l n xs h
   queue_fallen l n (seat j k c (Some r) ∷ xs) h = let e : r - l - (n - l) ≡ r - n = omega arith in ap₂ (λ (z : ℕ) (zs : List Entry). entry j z ∷ zs) e (queue_fallen l n xs h)
 
-  pub queue_over : (l n : ℕ) (xs : List (Seat K)) → All (Ranked n) xs → Over (n - l) (queue l xs)
+  pub queue_over : (l n : ℕ) (xs : List (Seat K)) → AllByRecursion (Ranked n) xs → Over (n - l) (queue l xs)
   queue_over l n [] a = tt
   queue_over l n (seat j k c None ∷ xs) a = queue_over l n xs a.1
   queue_over l n (seat j k c (Some r) ∷ xs) a = let h : n ≤ r = a.0 in (omega arith, queue_over l n xs a.1)
@@ -176,19 +176,19 @@ module _ {K : Type 0} where
 
   -- what holds of each but the slot, and of the slot without its rank
   all_past : (P Q : Seat K → Type 0) (i : ℕ) → ((j : ℕ) (k : K) (c : ℕ) (r : Option ℕ) → (j ≡ i → ⊥) → P (seat j k c r) → Q (seat j k c r))
-      → (xs : List (Seat K)) → sits i xs ≡ false → All P xs → All Q xs
+      → (xs : List (Seat K)) → sits i xs ≡ false → AllByRecursion P xs → AllByRecursion Q xs
   all_past P Q i f [] h a = tt
   all_past P Q i f (seat j k c r ∷ xs) h a = let p = or_parts (eqb j i) (sits i xs) h in (f j k c r (eqb-false j i p.0) a.0, all_past P Q i f xs p.1 a.1)
 
   pub all_lending : (P Q : Seat K → Type 0) (i : ℕ) → ((j : ℕ) (k : K) (c : ℕ) (r : Option ℕ) → (j ≡ i → ⊥) → P (seat j k c r) → Q (seat j k c r))
-      → ((k : K) (c : ℕ) (r : Option ℕ) → P (seat i k c r) → Q (seat i k c None)) → (xs : List (Seat K)) → Once xs → All P xs → All Q (lending i xs)
+      → ((k : K) (c : ℕ) (r : Option ℕ) → P (seat i k c r) → Q (seat i k c None)) → (xs : List (Seat K)) → Once xs → AllByRecursion P xs → AllByRecursion Q (lending i xs)
   all_lending P Q i f g [] o a = tt
   all_lending P Q i f g (seat j k c r ∷ xs) o a = ⊎_elim
-      (λ p. subst (All Q) (sym (lend_same i j k c r xs p)) (
+      (λ p. subst (AllByRecursion Q) (sym (lend_same i j k c r xs p)) (
         subst (λ (n : ℕ). Q (seat n k c None)) (sym p) (g k c r (subst (λ (n : ℕ). P (seat n k c r)) p a.0)),
         all_past P Q i f xs (subst (λ (n : ℕ). sits n xs ≡ false) p o.0) a.1,
       ))
-      (λ p. subst (All Q) (sym (lend_else i j k c r xs p)) (f j k c r p a.0, all_lending P Q i f g xs o.1 a.1))
+      (λ p. subst (AllByRecursion Q) (sym (lend_else i j k c r xs p)) (f j k c r p a.0, all_lending P Q i f g xs o.1 a.1))
       (cases_eq j i)
 
   queue_past : (l i : ℕ) (xs : List (Seat K)) → sits i xs ≡ false → queue l xs ≡ without i (queue l xs)
@@ -214,7 +214,7 @@ module _ {K : Type 0} where
     pub is : seat_at i xs ≡ Some (seat i key cost rank)
     pub has : P (seat i key cost rank)
 
-  pub seat_found : (P : Seat K → Type 0) (i : ℕ) (xs : List (Seat K)) → sits i xs ≡ true → All P xs → Seated-at P i xs
+  pub seat_found : (P : Seat K → Type 0) (i : ℕ) (xs : List (Seat K)) → sits i xs ≡ true → AllByRecursion P xs → Seated-at P i xs
   seat_found P i [] h a = absurd (both_ways false refl h)
   seat_found P i (seat j k c r ∷ xs) h a = ⊎_elim
       (λ p. record {

@@ -2,7 +2,7 @@
 use Rattle.std.proofs.Common.{◌≡◌, ℕ, zero, suc, ◌+◌, ◌-◌, ◌<◌, ◌≤◌, Bool, true, false, not, eqb, List, [], ◌∷◌, ◌++◌, map, length, get_or, set, is_some, Some, None, Option, sym, refl, ap, ◌∙◌, subst, ⊎_elim, arith, length-set}
 use mathlib.Core.List.{map-append}
 use Rattle.std.specs.Option.{option_map}
-use Rattle.std.specs.List.{AllByRecursion as All}
+use Rattle.std.specs.List.{AllByRecursion}
 use Rattle.std.proofs.ByRecursion.{All-weaker, All-append}
 use Rattle.std.proofs.lemmas.List.{length_push}
 use Rattle.std.proofs.lemmas.Bool.{cases_eq, cases_Bool, eq-eqb, ne_eqb, cond-true, cond-false, or_left, or_right}
@@ -49,7 +49,7 @@ module _ {K : Type 0} where
 
   -- the seats are the slots that have a key
   pub record Holds (s : State K) (xs : List (Seat K)) : Type 0 where
-    pub seated : All (Seated s) xs
+    pub seated : AllByRecursion (Seated s) xs
     pub once : Once xs
     pub count : length xs ≡ pairs s.directory.keys
     pub held : (i : ℕ) (k : K) → key_at s.directory i ≡ Some k → sits i xs ≡ true
@@ -59,7 +59,7 @@ module _ {K : Type 0} where
     pub size : slots s ≡ n
     pub regions : g.regions ≡ map region xs
     pub waiting : s.order.waiting ≡ merged [] (queue g.inflation xs)
-    pub ranked : All (Ranked g.inflation) xs
+    pub ranked : AllByRecursion (Ranked g.inflation) xs
     pub holds : Holds s xs
 
   -- only the slot i differs
@@ -143,15 +143,15 @@ module _ {K : Type 0} (same : K → K → Bool) where
       (cases_Bool (same l k)))
       (cases_eq j i)
 
-  pub marks : {home : K → ℕ} (s : State K) (xs : List (Seat K)) → SameLaws same home → Distinct same s.directory → All (Seated s) xs
-      → (i : ℕ) (a k : K) → key_at s.directory i ≡ Some a → same a k ≡ true → All (Marks same k i) xs
+  pub marks : {home : K → ℕ} (s : State K) (xs : List (Seat K)) → SameLaws same home → Distinct same s.directory → AllByRecursion (Seated s) xs
+      → (i : ℕ) (a k : K) → key_at s.directory i ≡ Some a → same a k ≡ true → AllByRecursion (Marks same k i) xs
   marks s xs L D f i a k e m = All-weaker (Seated s) (Marks same k i) (marks_seat s L D i a k e m) xs f
 
   -- a key that is not held differs from each
   differs_seat : (s : State K) (k : K) → held_slot same s k ≡ None → (x : Seat K) → Seated s x → Differs same k x
   differs_seat s k e (seat j l c r) f = sym (ap (holds same k) f.key) ∙ absent same k s.directory.keys j e
 
-  pub differs : (s : State K) (xs : List (Seat K)) (k : K) → held_slot same s k ≡ None → All (Seated s) xs → All (Differs same k) xs
+  pub differs : (s : State K) (xs : List (Seat K)) (k : K) → held_slot same s k ≡ None → AllByRecursion (Seated s) xs → AllByRecursion (Differs same k) xs
   differs s xs k e f = All-weaker (Seated s) (Differs same k) (differs_seat s k e) xs f
 
   -- ---- GreedyDual over the seats
@@ -222,7 +222,7 @@ module _ {K : Type 0} (same : K → K → Bool) where
       let fk : key_at s.directory i ≡ Some x.key = f.key in
       let same_key : x.key ≡ left = cc in
       let chosen : least same g.regions ≡ Some (region_first x) = ap (least same) h.regions ∙ least_lead same xs ∙ ap (option_map region_first) p in
-      let ranks : All (Ranked x.rank) (sans i xs) = all_sans (Ranked x.rank) (Ranked x.rank) i (λ j b c r m q. q) xs (lead_ranked xs x p) in
+      let ranks : AllByRecursion (Ranked x.rank) (sans i xs) = all_sans (Ranked x.rank) (Ranked x.rank) i (λ j b c r m q. q) xs (lead_ranked xs x p) in
       record {
         victim = ap (key_of same) chosen ∙ ap (λ (k : K). Some k) same_key;
         after = subst (λ (o : Option (Region K)). Tracks (evicted s i) n (leave same g o) (sans i xs)) (sym chosen) (record {

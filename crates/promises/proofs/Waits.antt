@@ -1,6 +1,6 @@
 -- Who waits after one is placed, withdrawn or expelled, and that an order stays lawful.
 use Rattle.std.proofs.Common.{◌≡◌, ℕ, ◌-◌, ◌<◌, ◌≤◌, Bool, true, false, cond, not, ◌&&◌, ◌||◌, eqb, ltb, leb, List, [], ◌∷◌, Some, None, Option, sym, refl, ap, ◌∙◌, subst, ⊎_elim, arith}
-use Rattle.std.specs.List.{AllByRecursion as All}
+use Rattle.std.specs.List.{AllByRecursion}
 use Rattle.std.proofs.ByRecursion.{All-weaker}
 use Rattle.std.proofs.lemmas.Bool.Decides.{nat_tests}
 use Rattle.std.proofs.lemmas.Bool.{cases_eq, cases_lt, cases_Bool, eq-eqb, ne_eqb, lt-ltb, le-ltb, le-leb, cond-true, cond-false, or_parts, or_from, or_left, eqb-false, ltb-true, leb-true, and_parts, and_from, not_from_false, not-true}
@@ -16,11 +16,11 @@ join_here e x xs h = cond-true (ltb e.credit x.credit) (e ∷ x ∷ xs) (x ∷ j
 pub join_past : (e x : Entry) (xs : List Entry) → x.credit ≤ e.credit → joined e (x ∷ xs) ≡ x ∷ joined e xs
 join_past e x xs h = cond-false (ltb e.credit x.credit) (e ∷ x ∷ xs) (x ∷ joined e xs) (le-ltb e.credit x.credit h)
 
-pub join_all : (P : Entry → Type 0) (e : Entry) (xs : List Entry) → P e → All P xs → All P (joined e xs)
+pub join_all : (P : Entry → Type 0) (e : Entry) (xs : List Entry) → P e → AllByRecursion P xs → AllByRecursion P (joined e xs)
 join_all P e [] p a = (p, tt)
 join_all P e (x ∷ xs) p a = ⊎_elim
-    (λ h. subst (All P) (sym (join_here e x xs h)) (p, a))
-    (λ h. subst (All P) (sym (join_past e x xs h)) (a.0, join_all P e xs p a.1))
+    (λ h. subst (AllByRecursion P) (sym (join_here e x xs h)) (p, a))
+    (λ h. subst (AllByRecursion P) (sym (join_past e x xs h)) (a.0, join_all P e xs p a.1))
     (cases_lt e.credit x.credit)
 
 pub join_sorted : (e : Entry) (xs : List Entry) → Sorted xs → Sorted (joined e xs)
@@ -58,11 +58,11 @@ drop_same s x xs h = cond-true (eqb x.slot s) (without s xs) (x ∷ without s xs
 pub drop_else : (s : ℕ) (x : Entry) (xs : List Entry) → (x.slot ≡ s → ⊥) → without s (x ∷ xs) ≡ x ∷ without s xs
 drop_else s x xs h = cond-false (eqb x.slot s) (without s xs) (x ∷ without s xs) (ne_eqb x.slot s h)
 
-pub without_all : (P : Entry → Type 0) (s : ℕ) (xs : List Entry) → All P xs → All P (without s xs)
+pub without_all : (P : Entry → Type 0) (s : ℕ) (xs : List Entry) → AllByRecursion P xs → AllByRecursion P (without s xs)
 without_all P s [] a = tt
 without_all P s (x ∷ xs) a = ⊎_elim
-    (λ h. subst (All P) (sym (drop_same s x xs h)) (without_all P s xs a.1))
-    (λ h. subst (All P) (sym (drop_else s x xs h)) (a.0, without_all P s xs a.1))
+    (λ h. subst (AllByRecursion P) (sym (drop_same s x xs h)) (without_all P s xs a.1))
+    (λ h. subst (AllByRecursion P) (sym (drop_else s x xs h)) (a.0, without_all P s xs a.1))
     (cases_eq x.slot s)
 
 without_sorted : (s : ℕ) (xs : List Entry) → Sorted xs → Sorted (without s xs)
@@ -99,7 +99,7 @@ pub fallen_waits : (s d : ℕ) (xs : List Entry) → waits s (fallen d xs) ≡ w
 fallen_waits s d [] = refl
 fallen_waits s d (x ∷ xs) = ap (λ (b : Bool). eqb x.slot s || b) (fallen_waits s d xs)
 
-fallen_all : (P Q : Entry → Type 0) (d : ℕ) (xs : List Entry) → ((y : Entry) → P y → Q (record { slot = y.slot; credit = y.credit - d })) → All P xs → All Q (fallen d xs)
+fallen_all : (P Q : Entry → Type 0) (d : ℕ) (xs : List Entry) → ((y : Entry) → P y → Q (record { slot = y.slot; credit = y.credit - d })) → AllByRecursion P xs → AllByRecursion Q (fallen d xs)
 fallen_all P Q d [] f a = tt
 fallen_all P Q d (x ∷ xs) f a = (f x a.0, fallen_all P Q d xs f a.1)
 

@@ -1,7 +1,7 @@
 -- Lines of calls: the making of an empty cache, then any number of events, each a step from the state that the one before left.
 use Rattle.std.specs.Prelude.{◌≡◌, ℕ, min, max, Bool, List, [], ◌∷◌, replicate}
 use Rattle.orders.specs.Meaning.{OrderMeaning, emptied}
-use Rattle.directories.specs.Meaning.{DirectoryMeaning, emptied as emptied-directory}
+use Rattle.directories.specs.Meaning.{DirectoryMeaning, emptied as emptied_directory}
 use Rattle.promises.specs.State.{State, blank}
 use Rattle.promises.specs.Events.{Event}
 use Rattle.promises.specs.Steps.{Step}
@@ -20,7 +20,7 @@ chunk_size n = max (min n 4096) 1
 -- The order is emptied, and the directory is emptied at the lesser of 1,024 and the order's size.
 abbrev pub made : {K : Type 0} → Making K → State K
 made m = record {
-  directory = emptied-directory m.directory (min 1024 m.order.size);
+  directory = emptied_directory m.directory (min 1024 m.order.size);
   order = emptied m.order;
   table = record { mark = m.mark; chunk = chunk_size m.chunk; records = replicate 1024 blank };
 }

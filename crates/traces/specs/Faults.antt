@@ -1,7 +1,7 @@
 -- Faults: the number and the layer of each kind, which of two comes first, and what each layer's own fault tells.
 use Rattle.std.specs.Prelude.{◌≡◌, ℕ, ◌<◌, ◌≤◌, ◌⊎◌}
 use Rattle.promises.specs.declared.answers.Refusal.{Refusal}
-use Rattle.promises.specs.Numbers.{number_of as refusal-number}
+use Rattle.promises.specs.Numbers.{number_of as refusal_number}
 use Rattle.traces.specs.declared.faults.Fault.{Fault}
 use Rattle.traces.specs.declared.faults.FaultKind.{FaultKind}
 use Rattle.traces.specs.declared.faults.FaultKind.TheVariants.{Line, Names, Shape, Value, Rows, Cache, Room}
@@ -20,7 +20,7 @@ number_of Names = 10
 number_of Shape = 11
 number_of Value = 12
 number_of Rows = 13
-number_of (Cache r) = refusal-number r
+number_of (Cache r) = refusal_number r
 number_of Room = 14
 
 -- the layer that finds a kind of fault
