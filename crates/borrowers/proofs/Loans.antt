@@ -1,7 +1,8 @@
 -- No call but a lease and a give-back changes which leases are out, and the two together do not either.
-use Rattle.std.proofs.Common.{◌≡◌, ℕ, ◌<◌, Bool, true, false, cond, ◌&&◌, eqb, List, length, Some, None, Ok, Err, Option, Result, sym, refl, ap, ◌∙◌, subst, ⊎_elim, arith, get_or-set_other, get_or-set_same}
+use Rattle.std.proofs.Common.{◌≡◌, ℕ, ◌<◌, Bool, true, false, cond, not, ◌&&◌, eqb, List, length, Some, None, Ok, Err, Option, Result, sym, refl, ap, ◌∙◌, subst, ⊎_elim, arith, get_or-set_other, get_or-set_same}
 use Rattle.std.proofs.lemmas.Bool.{cases_eq, and_right}
 use Rattle.promises.specs.declared.answers.Refusal.{Refusal}
+use Rattle.promises.specs.declared.answers.Refusal.TheVariants.{UnknownLease}
 use Rattle.promises.specs.declared.answers.Kept.{Kept}
 use Rattle.promises.specs.declared.answers.Kept.TheVariants.{Refreshed, Taken, TakenEvicting}
 use Rattle.promises.specs.declared.answers.Evicted.{Evicted}
@@ -14,6 +15,9 @@ use Rattle.promises.specs.Events.{Part, gets, keeps, leases, writes, gives_back,
 use Rattle.promises.specs.Steps.{Step, Takes, out_slot, touched, with_lending}
 use Rattle.promises.proofs.Seeks.{found_below}
 use Rattle.promises.proofs.Sounds.{accepted, absence_idle, write_known, give_known, known_out, out_held, held_small, sound_evicted, unheld_idle}
+use Rattle.cache.specs.Leases.{refused_by}
+use Rattle.cache.specs.declared.declined.Declined.{Declined}
+use Rattle.cache.specs.declared.lease.Lease.{Lease}
 use Rattle.borrowers.specs.Loans.{KeepsLeases}
 
 -- ---- tables in which one record changes
@@ -97,6 +101,18 @@ module _ {K : Type 0} (same : K → K → Bool) where
   drop_keeps s u k (Ok x) w = keeps_by s u (λ t. ap (λ (y : State K). known y.table t) w.1.after)
 
   -- ---- a loan
+
+  -- a give-back that was accepted
+  pub taken_back : (s u : State K) (t : Ticket) (r : Result (Unit {0}) (Declined Lease)) → r ≡ Ok tt → Step same s (gives_back t (refused_by r)) u → Step same s (gives_back t (Ok tt)) u
+  taken_back s u t r e w = subst (λ (x : Result (Unit {0}) (Declined Lease)). Step same s (gives_back t (refused_by x)) u) e w
+
+  -- a lease that is known is taken back
+  pub known_taken : (s u : State K) (t : Ticket) (r : Result (Unit {0}) (Declined Lease)) → known s.table t ≡ true → Step same s (gives_back t (refused_by r)) u → r ≡ Ok tt
+  known_taken s u t (Ok tt) k w = refl
+  known_taken s u t (Err d) k w =
+      let e : None ≡ Some d.refusal = sym (ap (λ (b : Bool). cond (not b) (Some UnknownLease) None) k) ∙ w.0 in
+      let z : ◌≡◌ {A = ℕ} 0 1 = cc in
+      absurd (omega arith)
 
   -- a lease and its give-back, with calls between them that keep to the leases that are out then
   pub loan_keeps : (s a b u : State K) (k : K) (n : Ticket) → Sound same b → Step same s (leases k (Ok n)) a → KeepsLeases a b → Step same b (gives_back n (Ok tt)) u → KeepsLeases s u

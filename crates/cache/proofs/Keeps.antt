@@ -3,18 +3,18 @@ use Rattle.std.proofs.Common.{◌≡◌, ℕ, zero, suc, ◌+◌, ◌*◌, ◌<�
 use Rattle.std.proofs.lemmas.Bool.{cases_eq, cond-false, both_ways, and_left, and_right, and_from, eqb-true}
 use Rattle.keys.specs.Sameness.{SameLaws}
 use Rattle.orders.specs.declared.Expelled.{Expelled}
-use Rattle.orders.specs.Meaning.{OrderMeaning, waits, leaver, expelled}
-use Rattle.directories.specs.Meaning.{DirectoryMeaning, key_at, pairs, size, find, declines, removed, freed}
+use Rattle.orders.specs.Meaning.{OrderMeaning, waits, placed, withdrawn, leaver, expelled}
+use Rattle.directories.specs.Meaning.{DirectoryMeaning, key_at, pairs, size, find, declines, removed, freed, Enters}
 use Rattle.promises.specs.declared.answers.Refusal.TheVariants.{BadCost, LongValue, ShortSlab, OnLease, NotAdmitted, AllOut}
 use Rattle.promises.specs.declared.answers.Kept.TheVariants.{Refreshed, Taken, TakenEvicting}
 use Rattle.promises.specs.declared.records.Table.{Table}
 use Rattle.promises.specs.State.{State, Sound, slots, held_slot, out_at}
 use Rattle.promises.specs.Events.{keeps}
-use Rattle.promises.specs.Steps.{Takes, Evicts, bad_cost, long_value, short_slab, out_slot, every_out, full, no_room, keep_fault, settled, withdrew, evicted, written, start}
+use Rattle.promises.specs.Steps.{Step, Takes, Evicts, bad_cost, long_value, short_slab, out_slot, every_out, full, no_room, keep_fault, settled, evicted, written, start}
 use Rattle.promises.proofs.Waits.{leaver_waits, none_waits}
 use Rattle.promises.proofs.Seeks.{found_at, found_below, held_below, absent_freed, full_held, room_freed}
 use Rattle.promises.proofs.Sounds.{clear, Accepted, accepted_early, sound_evicted, unheld_idle, waiting_held, waiting_not_out}
-use Rattle.cache.specs.Keeping.{early_fault, Fits, Tries, Leaves}
+use Rattle.cache.specs.Keeping.{early_fault, Leaves}
 use Rattle.cache.proofs.States.{parts_same, Done, done}
 use Rattle.cache.proofs.Slabs.{fits}
 
@@ -48,17 +48,15 @@ module _ {K : Type 0} {home : K → ℕ} (same : K → K → Bool) (L : SameLaws
     after = parts_same (p ∙ ap (freed s.directory) (found_at same s.directory left f.slot L S.distinct n)) q refl;
   }
 
-  pub take_room : (i n m : ℕ) → i < slots s → Fits s n m → i * s.table.chunk + n ≤ m
-  take_room i n m lt F = fits same L s S i n m lt F.room F.short
+  -- what is left when one has gone is sound
+  pub evict_sound : (left : K) (u : State K) → Evicts s left u → Sound same u
+  evict_sound left u E = subst (λ (y : State K). Sound same y) (sym E.after) (sound_evicted same s E.first S E.least)
 
   -- ---- a keep that passes the early tests
 
   module _ (k : K) (c : ℕ) (v slab : List ℕ) (early : early_fault same s k c (length v) (length slab) ≡ None) where
     passed : Accepted same s k c (length v) (length slab)
     passed = accepted_early same s k c (length v) (length slab) None early
-
-    pub kept_fits : Fits s (length v) (length slab)
-    kept_fits = record { short = passed.short; room = passed.room }
 
     -- only the last test is left
     last : keep_fault same s k c (length v) (length slab) ≡ cond (no_room same s k) (Some AllOut) None
@@ -72,15 +70,20 @@ module _ {K : Type 0} {home : K → ℕ} (same : K → K → Bool) (L : SameLaws
         ∙ cond-false (short_slab s (length slab)) (Some ShortSlab) _ d.0 ∙ cond-false (out_slot s.table (held_slot same s k)) (Some OnLease) _ f.0
         ∙ cond-false (not (s.directory.admitted k)) (Some NotAdmitted) _ h.0
 
-    pub refresh_room : (i : ℕ) → held_slot same s k ≡ Some i → i * s.table.chunk + length v ≤ length slab
-    refresh_room i e = take_room i (length v) (length slab) (found_below same s.directory k i e) kept_fits
+    -- the value lies in the slab at any of the slots
+    pub keep_room : (i : ℕ) → i < slots s → i * s.table.chunk + length v ≤ length slab
+    keep_room i lt = fits same L s S i (length v) (length slab) lt passed.room passed.short
 
-    pub keep_refreshes : (i : ℕ) (t : State K) (slab' : List ℕ) → held_slot same s k ≡ Some i → t ≡ settled (withdrew s i) i c (length v) → slab' ≡ written slab (start s i) v
-        → Done same L s S (keeps k c v slab (Ok Refreshed) slab') t
-    keep_refreshes i t slab' e p q =
-        let n : no_room same s k ≡ false = ap (λ (o : Option ℕ). not (is_some o) && every_out s.table (slots s)) e in
-        done same L s S (keeps k c v slab (Ok Refreshed) slab') t
-        (last ∙ cond-false (no_room same s k) (Some AllOut) None n, record { slot = i; held = e; after = p; bytes = q })
+    pub refresh_room : (i : ℕ) → Some i ≡ held_slot same s k → i * s.table.chunk + length v ≤ length slab
+    refresh_room i e = keep_room i (found_below same s.directory k i (sym e))
+
+    pub keep_refreshes : (i : ℕ) (o o' : OrderMeaning) (n : Table) (slab' : List ℕ) → held_slot same s k ≡ Some i
+        → o ≡ withdrawn s.order i → o' ≡ placed o i c → n ≡ (settled s i c (length v)).table → slab' ≡ written slab (start s i) v
+        → Done same L s S (keeps k c v slab (Ok Refreshed) slab') (record { directory = s.directory; order = o'; table = n })
+    keep_refreshes i o o' n slab' e p q t b =
+        let z : no_room same s k ≡ false = ap (λ (x : Option ℕ). not (is_some x) && every_out s.table (slots s)) e in
+        done same L s S (keeps k c v slab (Ok Refreshed) slab') _
+        (last ∙ cond-false (no_room same s k) (Some AllOut) None z, record { slot = i; held = e; after = parts_same refl (q ∙ ap (λ (x : OrderMeaning). placed x i c) p) t; bytes = b })
 
     module _ (absent : held_slot same s k ≡ None) where
       -- the last test, where the key is not held
@@ -92,39 +95,41 @@ module _ {K : Type 0} {home : K → ℕ} (same : K → K → Bool) (L : SameLaws
       by_full =
           ap (λ (x : Bool). not x || (is_some (held_slot same s k) || full s)) passed.admits ∙ ap (λ (o : Option ℕ). is_some o || full s) absent
 
-      pub keep_takes : (t : State K) (slab' : List ℕ) → Tries same s k c v slab true t slab' → Done same L s S (keeps k c v slab (Ok Taken) slab') t
-      keep_takes t slab' w =
-          let T = w.1 in
-          let o : every_out s.table (slots s) ≡ false = every_out_false s.table (slots s) T.slot T.below (unheld_idle same s T.slot S T.unused).1 in
-          done same L s S (keeps k c v slab (Ok Taken) slab') t (by_out false o, absent, sym by_full ∙ w.0, T)
+      pub keep_takes : (i : ℕ) (d : DirectoryMeaning K) (o : OrderMeaning) (n : Table) (slab' : List ℕ) → Enters same s.directory k (Some i) d
+          → o ≡ placed s.order i c → n ≡ (settled s i c (length v)).table → slab' ≡ written slab (start s i) v
+          → Done same L s S (keeps k c v slab (Ok Taken) slab') (record { directory = d; order = o; table = n })
+      keep_takes i d o n slab' w p q b =
+          let T : Takes s k c v slab (record { directory = d; order = o; table = n }) slab' = record { slot = i; below = w.1.0; unused = w.1.1; after = parts_same w.2 p q; bytes = b } in
+          let x : every_out s.table (slots s) ≡ false = every_out_false s.table (slots s) i w.1.0 (unheld_idle same s i S w.1.1).1 in
+          done same L s S (keeps k c v slab (Ok Taken) slab') _ (by_out false x, absent, sym by_full ∙ w.0, T)
 
       -- no room: the directory declined the key
-      module _ (s₁ : State K) (slab₁ : List ℕ) (w : Tries same s k c v slab false s₁ slab₁) where
+      module _ (d₁ : DirectoryMeaning K) (w : Enters same s.directory k None d₁) where
+        abbrev pub s₁ : State K
+        s₁ = record { directory = d₁; order = s.order; table = s.table }
+
+        unmoved : s₁ ≡ s
+        unmoved = parts_same w.1 refl refl
+
+        pub declined_sound : Sound same s₁
+        declined_sound = subst (λ (y : State K). Sound same y) (sym unmoved) S
+
         is_full : full s ≡ true
         is_full = sym by_full ∙ w.0
 
         all_held : (i : ℕ) → i < slots s → is_some (key_at s.directory i) ≡ true
         all_held i lt = full_held s.directory.keys i (eqb-true (pairs s.directory.keys) (slots s) is_full) lt
 
-        pub keep_all_out : (s₂ : State K) → Leaves s₁ None s₂ → Done same L s S (keeps k c v slab (Err AllOut) slab₁) s₂
+        pub keep_all_out : (s₂ : State K) → Leaves s₁ None s₂ → Step same s (keeps k c v slab (Err AllOut) slab) s₂
         keep_all_out s₂ x =
-            let l : leaver s.order.waiting ≡ None = subst (λ (y : State K). leaver y.order.waiting ≡ None) w.1 x.0 in
+            let l : leaver s.order.waiting ≡ None = x.0 in
             let o : every_out s.table (slots s) ≡ true = every_out_true s.table (slots s) (λ i lt. or_other (waits i s.order.waiting) (out_at s.table i) (sym (S.each i).either ∙ all_held i lt) (none_waits s.order.waiting i l)) in
-            done same L s S (keeps k c v slab (Err AllOut) slab₁) s₂ (by_out true o, x.1 ∙ w.1, w.2)
+            (by_out true o, x.1 ∙ unmoved, refl)
 
         -- somebody leaves
         module _ (left : K) (s₂ : State K) (x : Leaves s₁ (Some left) s₂) where
           gone : Evicts s left s₂
-          gone = subst (λ (y : State K). Evicts y left s₂) w.1 x
-
-          pub left_sound : Sound same s₂
-          left_sound = subst (λ (y : State K). Sound same y) (sym gone.after) (sound_evicted same s gone.first S gone.least)
-
-          pub left_fits : Fits s₂ (length v) (length slab₁)
-          left_fits =
-              subst (λ (y : State K). Fits y (length v) (length slab₁)) (sym gone.after)
-              (subst (λ (l : List ℕ). Fits (evicted s gone.first.slot) (length v) (length l)) (sym w.2)
-              (record { short = kept_fits.short; room = subst (λ (n : ℕ). n * s.table.chunk ≤ length slab) (sym (length-set s.directory.keys gone.first.slot None)) kept_fits.room }))
+          gone = subst (λ (y : State K). Evicts y left s₂) unmoved x
 
           first_held : is_some (key_at s.directory gone.first.slot) ≡ true
           first_held = waiting_held same s gone.first.slot S (leaver_waits s.order.waiting gone.first gone.least)
@@ -133,19 +138,26 @@ module _ {K : Type 0} {home : K → ℕ} (same : K → K → Bool) (L : SameLaws
           first_below = held_below same s.directory gone.first.slot first_held
 
           -- then the directory does not decline
-          pub left_room : declines same s₂.directory k ≡ true → ⊥
-          left_room h =
+          pub left_room : (d₂ : DirectoryMeaning K) → Enters same s₂.directory k None d₂ → ⊥
+          left_room d₂ h =
               let d : DirectoryMeaning K = freed s.directory (Some gone.first.slot) in
               let a : find same d k ≡ None = absent_freed same s.directory k gone.first.slot absent in
-              let z : declines same d k ≡ true = subst (λ (y : State K). declines same y.directory k ≡ true) gone.after h in
+              let z : declines same d k ≡ true = subst (λ (y : State K). declines same y.directory k ≡ true) gone.after h.0 in
               let y : declines same d k ≡ eqb (pairs d.keys) (size d) =
               ap (λ (x : Bool). not x || (is_some (find same d k) || eqb (pairs d.keys) (size d))) passed.admits ∙ ap (λ (o : Option ℕ). is_some o || eqb (pairs d.keys) (size d)) a in
               let e : pairs d.keys ≡ size d = eqb-true (pairs d.keys) (size d) (sym y ∙ z) in
               let r : pairs d.keys < size d = room_freed s.directory.keys gone.first.slot first_below in
               omega arith
 
-          pub keep_evicts : (t : State K) (slab' : List ℕ) → Tries same s₂ k c v slab₁ true t slab' → Done same L s S (keeps k c v slab (Ok (TakenEvicting (record { key = left }))) slab') t
-          keep_evicts t slab' y =
-              let T : Takes s₂ k c v slab t slab' = subst (λ (l : List ℕ). Takes s₂ k c v l t slab') w.2 y.1 in
-              let o : every_out s.table (slots s) ≡ false = every_out_false s.table (slots s) gone.first.slot first_below (waiting_not_out same s gone.first.slot S (leaver_waits s.order.waiting gone.first gone.least)) in
-              done same L s S (keeps k c v slab (Ok (TakenEvicting (record { key = left }))) slab') t (by_out false o, absent, is_full, (s₂, gone, T))
+          pub left_below : (i : ℕ) (d₂ : DirectoryMeaning K) → Enters same s₂.directory k (Some i) d₂ → i < slots s
+          left_below i d₂ y =
+              let z : i < slots (evicted s gone.first.slot) = subst (λ (t : State K). i < slots t) gone.after y.1.0 in
+              omega (arith, length-set s.directory.keys gone.first.slot None)
+
+          pub keep_evicts : (i : ℕ) (d : DirectoryMeaning K) (o : OrderMeaning) (n : Table) (slab' : List ℕ) → Enters same s₂.directory k (Some i) d
+              → o ≡ placed s₂.order i c → n ≡ (settled s₂ i c (length v)).table → slab' ≡ written slab (start s₂ i) v
+              → Done same L s S (keeps k c v slab (Ok (TakenEvicting (record { key = left }))) slab') (record { directory = d; order = o; table = n })
+          keep_evicts i d o n slab' y p q b =
+              let T : Takes s₂ k c v slab (record { directory = d; order = o; table = n }) slab' = record { slot = i; below = y.1.0; unused = y.1.1; after = parts_same y.2 p q; bytes = b } in
+              let x : every_out s.table (slots s) ≡ false = every_out_false s.table (slots s) gone.first.slot first_below (waiting_not_out same s gone.first.slot S (leaver_waits s.order.waiting gone.first gone.least)) in
+              done same L s S (keeps k c v slab (Ok (TakenEvicting (record { key = left }))) slab') _ (by_out false x, absent, is_full, (s₂, gone, T))

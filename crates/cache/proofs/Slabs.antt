@@ -1,19 +1,20 @@
 -- Values in a slab: where they lie, and the steps that read, write and remove them.
-use Rattle.std.proofs.Common.{◌≡◌, ℕ, suc, ◌+◌, ◌-◌, ◌*◌, ◌<◌, ◌≤◌, Bool, true, false, List, ◌++◌, length, take, drop, Some, None, Ok, Option, sym, refl, ap, ◌∙◌, mul-le-mul_right, suc-mul, arith}
+use Rattle.std.proofs.Common.{◌≡◌, ℕ, suc, ◌+◌, ◌-◌, ◌*◌, ◌<◌, ◌≤◌, Bool, true, false, List, ◌++◌, length, take, drop, is_some, Some, None, Ok, Option, sym, refl, ap, ◌∙◌, subst, mul-le-mul_right, suc-mul, arith}
 use borrow.Rule.Slice.PartMut.{put_mid}
 use Rattle.std.proofs.lemmas.List.{drop-drop}
 use Rattle.std.proofs.lemmas.Bool.{cond-false, ltb-false, not_from_true, le-ltb}
 use Rattle.keys.specs.Sameness.{SameLaws}
-use Rattle.orders.specs.Meaning.{OrderMeaning, withdrawn}
-use Rattle.directories.specs.Meaning.{DirectoryMeaning, removed, freed}
+use Rattle.orders.specs.Meaning.{OrderMeaning, placed, withdrawn}
+use Rattle.directories.specs.Meaning.{DirectoryMeaning, key_at, removed, freed}
 use Rattle.promises.specs.declared.answers.Refusal.TheVariants.{LongValue, ShortSlab, UnknownLease}
 use Rattle.promises.specs.declared.records.Ticket.{Ticket}
 use Rattle.promises.specs.State.{State, Sound, slots, held_slot, record_at, out_at, known}
 use Rattle.promises.specs.Events.{gets, writes, drops}
 use Rattle.promises.specs.Steps.{short_slab, touched, written, start, rewritten}
 use Rattle.promises.proofs.Seeks.{found_below, held_below}
-use Rattle.promises.proofs.Sounds.{known_out, out_held}
-use Rattle.cache.proofs.States.{parts_same, Done, done, not_absent}
+use Rattle.promises.proofs.Sounds.{known_out, out_held, sound_touched}
+use Rattle.cache.specs.Holding.{FindsWaiting}
+use Rattle.cache.proofs.States.{parts_same, Done, done}
 
 -- a slab after a copy into a part of it
 pub pasted : (a k : ℕ) (xs ys zs : List ℕ) → ys ≡ zs → k ≡ length zs → put_mid a k xs ys ≡ written xs a zs
@@ -28,6 +29,13 @@ module _ {K : Type 0} {home : K → ℕ} (same : K → K → Bool) (L : SameLaws
 
   pub room : (m : ℕ) (b : Bool) → b ≡ short_slab s m → b ≡ false → slots s * s.table.chunk ≤ m
   room m b e f = ltb-false m (slots s * s.table.chunk) (sym e ∙ f)
+
+  -- a region that waits is made the newest
+  pub touch_sound : (i : ℕ) (o o' : OrderMeaning) → is_some (key_at s.directory i) ≡ true → out_at s.table i ≡ false → o ≡ withdrawn s.order i → o' ≡ placed o i (record_at s.table i).cost
+      → Sound same (record { directory = s.directory; order = o'; table = s.table })
+  touch_sound i o o' h b p q =
+      let w : touched s i ≡ record { directory = s.directory; order = placed (withdrawn s.order i) i (record_at s.table i).cost; table = s.table } = cond-false (out_at s.table i) s _ b in
+      subst (λ (t : State K). Sound same t) (w ∙ parts_same refl (sym (q ∙ ap (λ (x : OrderMeaning). placed x i (record_at s.table i).cost) p)) refl) (sound_touched same s i S h)
 
   pub get_fits : (k : K) (i m : ℕ) (f : Option ℕ) (b : Bool) → b ≡ short_slab s m → b ≡ false → f ≡ held_slot same s k → f ≡ Some i → i * s.table.chunk + (record_at s.table i).len ≤ m
   get_fits k i m f b p q e g = fits i _ m (found_below same s.directory k i (sym e ∙ g)) (room m b p q) (S.each i).short
@@ -61,8 +69,6 @@ module _ {K : Type 0} {home : K → ℕ} (same : K → K → Bool) (L : SameLaws
         h,
       )
 
-  pub drop_done : (k : K) (i : ℕ) (f : Option ℕ) (b : Bool) (o : OrderMeaning) (d : DirectoryMeaning K) → f ≡ held_slot same s k → f ≡ Some i → b ≡ out_at s.table i → b ≡ false → o ≡ withdrawn s.order i → d ≡ removed same s.directory k
+  pub drop_done : (k : K) (i : ℕ) (o : OrderMeaning) (d : DirectoryMeaning K) → FindsWaiting same s k (Ok i) → o ≡ withdrawn s.order i → d ≡ removed same s.directory k
       → Done same L s S (drops k (Ok tt)) (record { directory = d; order = o; table = s.table })
-  drop_done k i f b o d e g p q h l =
-      let z : held_slot same s k ≡ Some i = sym e ∙ g in
-      done same L s S (drops k (Ok tt)) _ (not_absent same L s S k i z (sym p ∙ q), record { slot = i; held = z; after = parts_same (l ∙ ap (freed s.directory) z) h refl })
+  drop_done k i o d w h l = done same L s S (drops k (Ok tt)) _ (w.0, record { slot = i; held = w.1; after = parts_same (l ∙ ap (freed s.directory) w.1) h refl })

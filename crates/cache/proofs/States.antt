@@ -1,15 +1,13 @@
 -- States that are built part by part, and steps that leave sound ones.
-use Rattle.std.proofs.Common.{◌≡◌, ℕ, ◌<◌, min, max, Bool, false, not, List, [], ◌∷◌, replicate, is_some, IfSome, Some, None, Option, sym, ap, ◌∙◌, arith}
-use Rattle.std.proofs.lemmas.Bool.{cond-false}
+use Rattle.std.proofs.Common.{◌≡◌, ℕ, ◌<◌, min, max, Bool, List, replicate, IfSome, Some, None, Option, sym, ap, ◌∙◌, arith}
 use Rattle.keys.specs.Sameness.{SameLaws}
 use Rattle.orders.specs.Meaning.{OrderMeaning, emptied}
 use Rattle.directories.specs.Meaning.{DirectoryMeaning, find, emptied as emptied_directory}
-use Rattle.promises.specs.declared.answers.Refusal.TheVariants.{NotHeld, OnLease}
 use Rattle.promises.specs.declared.records.Record.{Record}
 use Rattle.promises.specs.declared.records.Table.{Table}
-use Rattle.promises.specs.State.{State, Sound, blank, out_at, held_slot}
+use Rattle.promises.specs.State.{State, Sound, blank}
 use Rattle.promises.specs.Events.{Event}
-use Rattle.promises.specs.Steps.{Step, first_of, out_slot, absence_fault}
+use Rattle.promises.specs.Steps.{Step}
 use Rattle.promises.specs.Lines.{made, chunk_size}
 use Rattle.promises.proofs.Seeks.{found_below}
 use Rattle.promises.proofs.Sounds.{sound_after}
@@ -21,13 +19,14 @@ parts_same {K} {d} {d'} {o} {o'} {t} {t'} p q r =
     ∙ ap (λ (x : OrderMeaning). record { directory = d'; order = x; table = t }) q
     ∙ ap (λ (x : Table). record { directory = d'; order = o'; table = x }) r
 
-pub new_made : {K : Type 0} (d d₁ : DirectoryMeaning K) (o o₁ : OrderMeaning) (mark chunk c₁ c₂ z z₁ : ℕ) (records : List Record) → o₁ ≡ emptied o → z ≡ o₁.size → z₁ ≡ min z 1024 → d₁ ≡ emptied_directory d z₁ → c₁ ≡ min chunk 4096 → c₂ ≡ max c₁ 1 → records ≡ replicate 1024 blank
-    → ◌≡◌ {A = State K} (record { directory = d₁; order = o₁; table = record { mark = mark; chunk = c₂; records = records } }) (made (record { directory = d; order = o; mark = mark; chunk = chunk }))
-new_made d d₁ o o₁ mark chunk c₁ c₂ z z₁ records e f g h a b t =
+pub new_made : {K : Type 0} (d d₁ : DirectoryMeaning K) (o o₁ : OrderMeaning) (mark chunk c z z₁ : ℕ) (records : List Record) → o₁ ≡ emptied o → z ≡ o₁.size → z₁ ≡ min z 1024 → d₁ ≡ emptied_directory d z₁ → c ≡ max 1 (min chunk 4096) → records ≡ replicate 1024 blank
+    → ◌≡◌ {A = State K} (record { directory = d₁; order = o₁; table = record { mark = mark; chunk = c; records = records } }) (made (record { directory = d; order = o; mark = mark; chunk = chunk }))
+new_made d d₁ o o₁ mark chunk c z z₁ records e f g h b t =
     let y : o₁.size ≡ o.size = ap (λ (x : OrderMeaning). x.size) e in
     let n : z₁ ≡ min 1024 o.size = omega arith in
+    let l : c ≡ chunk_size chunk = omega arith in
     parts_same (h ∙ ap (emptied_directory d) n) e
-    (ap (λ (x : ℕ). record { mark = mark; chunk = x; records = records }) (b ∙ ap (λ (x : ℕ). max x 1) a)
+    (ap (λ (x : ℕ). record { mark = mark; chunk = x; records = records }) l
     ∙ ap (λ (x : List Record). record { mark = mark; chunk = chunk_size chunk; records = x }) t)
 
 -- a slot that was found lies in the table
@@ -42,9 +41,3 @@ module _ {K : Type 0} {home : K → ℕ} (same : K → K → Bool) (L : SameLaws
 
   pub done : (e : Event K) (t : State K) → Step same s e t → Done e t
   done e t z = (z, sound_after same s e t L S z)
-
-  -- a region that is held and not out is there to lend or to drop
-  pub not_absent : (k : K) (i : ℕ) → held_slot same s k ≡ Some i → out_at s.table i ≡ false → absence_fault same s k ≡ None
-  not_absent k i e o =
-      ap (λ (x : Option ℕ). first_of ((not (is_some x), NotHeld) ∷ (out_slot s.table x, OnLease) ∷ [])) e
-      ∙ cond-false (out_at s.table i) (Some OnLease) None o

@@ -8,7 +8,7 @@ use Rattle.cache.specs.declared.declined.Declined.{Declined}
 use Rattle.cache.specs.declared.lease.Lease.{Lease}
 
 abbrev pub ticket_of : Lease → Ticket
-ticket_of l = record { mark = l.mark; slot = l.slot }
+ticket_of l = l.ticket
 
 -- the answer of a lease, by its ticket
 abbrev pub ticketed : Result Lease Refusal → Result Ticket Refusal

@@ -1,3 +1,4 @@
+pub mod Holding
 pub mod Keeping
 pub mod Leases
 pub mod Parts

@@ -6,6 +6,5 @@ pub(crate) fn fill(slab: &mut [u8], from: usize, value: &[u8])
     requires { from + length value.now ≤ length slab.old }
     ensures { slab.new ≡ written slab.old from value.now }
 {
-    let part = &mut slab[from..from + value.len()];
-    part.copy_from_slice(value);
+    slab[from..from + value.len()].copy_from_slice(value);
 }

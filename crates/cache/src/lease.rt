@@ -5,8 +5,7 @@ use promises::Ticket;
 
 /// The right to a region that is out. Only a cache makes one and ends it: it can be neither built nor copied nor let go elsewhere.
 pub struct Lease {
-    pub(crate) mark: u32,
-    pub(crate) slot: usize,
+    pub(crate) ticket: Ticket,
 }
 
 impl Lease {
@@ -14,9 +13,6 @@ impl Lease {
     pub fn ticket(&self) -> Ticket
         ensures { result ≡ ticket_of self.now }
     {
-        Ticket {
-            mark: self.mark,
-            slot: self.slot,
-        }
+        self.ticket
     }
 }

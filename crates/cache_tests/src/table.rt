@@ -34,12 +34,9 @@ impl<K: Key> Keys<K> {
     }
 
     fn name(&self, key: &K) -> Option<Name> {
-        for name in [Name::A, Name::B, Name::C, Name::D, Name::E] {
-            if key.same(&self.of(name)) {
-                return Some(name);
-            }
-        }
-        None
+        [Name::A, Name::B, Name::C, Name::D, Name::E]
+            .into_iter()
+            .find(|name| key.same(&self.of(*name)))
     }
 }
 
@@ -63,7 +60,7 @@ pub(crate) enum Step {
     State(Name, Answer),
 }
 
-/// What a call answers. A refusal goes by its number.
+/// What a call answers. A refusal goes by its number, since the numbers are what users know: a table expects one.
 #[derive(Clone, Copy, PartialEq)]
 pub(crate) enum Answer {
     Refused(u8),
@@ -86,61 +83,77 @@ pub(crate) enum Wrong {
     /// The step at this place was answered otherwise.
     Answer(usize),
     /// A lease that the test needs was refused.
-    NotLent(u8),
+    NotLent(Refusal),
     /// A give-back of another cache's lease was not refused by 4.
     TakenBack,
     /// The bytes of a key make no part name.
     NoName,
 }
 
-// The bytes as a value, whose letter is 0 where they are not all one.
-fn text_of(part: &[u8]) -> Text {
-    let mut letter = match part.first() {
-        Some(first) => *first,
-        None => 0,
-    };
-    for b in part {
-        if *b != letter {
-            letter = 0;
+impl From<Refusal> for Wrong {
+    fn from(refusal: Refusal) -> Wrong {
+        Wrong::NotLent(refusal)
+    }
+}
+
+impl From<&[u8]> for Text {
+    /// The letter is 0 where the bytes are not all one.
+    fn from(part: &[u8]) -> Text {
+        let letter = match part.first() {
+            Some(first) if part.iter().all(|b| b == first) => *first,
+            _ => 0,
+        };
+        Text {
+            letter,
+            len: part.len(),
         }
     }
-    Text {
-        letter,
-        len: part.len(),
+}
+
+// `workers` turns the same answers into an enum of its own; neither crate stands on the other.
+impl From<Result<Option<&[u8]>, Refusal>> for Answer {
+    fn from(found: Result<Option<&[u8]>, Refusal>) -> Answer {
+        match found {
+            Err(refusal) => Answer::Refused(refusal.number()),
+            Ok(None) => Answer::Missing,
+            Ok(Some(part)) => Answer::Found(Text::from(part)),
+        }
     }
 }
 
-pub(crate) fn of_get(found: Result<Option<&[u8]>, Refusal>) -> Answer {
-    match found {
-        Err(refusal) => Answer::Refused(refusal.number()),
-        Ok(None) => Answer::Missing,
-        Ok(Some(part)) => Answer::Found(text_of(part)),
+impl From<Result<(), Refusal>> for Answer {
+    fn from(done: Result<(), Refusal>) -> Answer {
+        match done {
+            Err(refusal) => Answer::Refused(refusal.number()),
+            Ok(()) => Answer::Done,
+        }
     }
 }
 
-pub(crate) fn of_keep<K: Key>(kept: Result<Kept<Evicted<K>>, Refusal>, keys: &Keys<K>) -> Answer {
-    match kept {
-        Err(refusal) => Answer::Refused(refusal.number()),
-        Ok(Kept::Refreshed) => Answer::Refreshed,
-        Ok(Kept::Taken) => Answer::Taken,
-        Ok(Kept::TakenEvicting(evicted)) => match keys.name(&evicted.key) {
-            Some(name) => Answer::Evicting(name),
-            None => Answer::EvictingStranger,
-        },
+impl From<Presence> for Answer {
+    fn from(presence: Presence) -> Answer {
+        match presence {
+            Presence::Absent => Answer::Absent,
+            Presence::Waiting => Answer::Waiting,
+            Presence::Out => Answer::Out,
+        }
     }
 }
 
-pub(crate) fn of_done(done: Result<(), Refusal>) -> Answer {
-    match done {
-        Err(refusal) => Answer::Refused(refusal.number()),
-        Ok(()) => Answer::Done,
-    }
-}
-
-pub(crate) fn of_state(presence: Presence) -> Answer {
-    match presence {
-        Presence::Absent => Answer::Absent,
-        Presence::Waiting => Answer::Waiting,
-        Presence::Out => Answer::Out,
+impl Answer {
+    /// What a keep answered, with the key that left by its name.
+    pub(crate) fn of_keep<K: Key>(
+        kept: Result<Kept<Evicted<K>>, Refusal>,
+        keys: &Keys<K>,
+    ) -> Answer {
+        match kept {
+            Err(refusal) => Answer::Refused(refusal.number()),
+            Ok(Kept::Refreshed) => Answer::Refreshed,
+            Ok(Kept::Taken) => Answer::Taken,
+            Ok(Kept::TakenEvicting(evicted)) => match keys.name(&evicted.key) {
+                Some(name) => Answer::Evicting(name),
+                None => Answer::EvictingStranger,
+            },
+        }
     }
 }

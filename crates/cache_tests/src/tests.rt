@@ -1,6 +1,4 @@
 // The tables, and the caches that they are run against.
-ghost use Rattle.cache.specs.Whole.{Good};
-
 use crate::loans::{play_foreign, play_lent, play_two_lent};
 use crate::table::{Answer, Keys, Name, Step, Text, Wrong};
 use cache::Cache;
@@ -160,12 +158,7 @@ fn alike<K: Key, D: Directory<K>, O: Order>(
     slab: &mut [u8],
     other: &mut Cache<K, D, O>,
     keys: &Keys<K>,
-) -> Result<(), Wrong>
-    requires good { Good K.Key.sameness K.Key.place D.Directory O.Order cache.old }
-    requires other { Good K.Key.sameness K.Key.place D.Directory O.Order other.old }
-    ensures good { Good K.Key.sameness K.Key.place D.Directory O.Order cache.new }
-    ensures other { Good K.Key.sameness K.Key.place D.Directory O.Order other.new }
-{
+) -> Result<(), Wrong> {
     let mut spare = [0; WHOLE];
     let _ = other.keep(keys.a, 1, &[1], &mut spare);
     play_foreign(cache, slab, other, keys, &unheld())?;
@@ -185,18 +178,24 @@ fn regions() -> Keys<RegionNumber> {
     }
 }
 
-#[test]
-fn regions_hashed_in_a_pile() -> Result<(), Fail> {
-    let mut cells = [Cell::new(); 2];
-    let mut cache = Cache::new(HashedDirectory::new(&mut cells), new_pile(), 7, CHUNK);
-    let mut others = [Cell::new(); 2];
-    let mut other = Cache::new(HashedDirectory::new(&mut others), new_pile(), 8, CHUNK);
+// Two caches over a pile and a hashed directory, for a key kind.
+fn hashed_in_a_pile<K: Key>(
+    keys: &Keys<K>,
+    cells: &mut [Cell<K>],
+    others: &mut [Cell<K>],
+) -> Result<(), Wrong> {
+    let mut cache = Cache::new(HashedDirectory::new(cells), new_pile(), 7, CHUNK);
+    let mut other = Cache::new(HashedDirectory::new(others), new_pile(), 8, CHUNK);
     let mut slab = [0; WHOLE];
-    let keys = regions();
-    let played = alike(&mut cache, &mut slab, &mut other, &keys);
+    let played = alike(&mut cache, &mut slab, &mut other, keys);
     let _parts = cache.into_parts();
     let _others = other.into_parts();
-    played?;
+    played
+}
+
+#[test]
+fn regions_hashed_in_a_pile() -> Result<(), Fail> {
+    hashed_in_a_pile(&regions(), &mut [Cell::new(); 2], &mut [Cell::new(); 2])?;
     Ok(())
 }
 
@@ -213,15 +212,7 @@ fn names() -> Option<Keys<PartName>> {
 #[test]
 fn names_hashed_in_a_pile() -> Result<(), Fail> {
     let keys = names().ok_or(Wrong::NoName)?;
-    let mut cells = [Cell::new(); 2];
-    let mut cache = Cache::new(HashedDirectory::new(&mut cells), new_pile(), 7, CHUNK);
-    let mut others = [Cell::new(); 2];
-    let mut other = Cache::new(HashedDirectory::new(&mut others), new_pile(), 8, CHUNK);
-    let mut slab = [0; WHOLE];
-    let played = alike(&mut cache, &mut slab, &mut other, &keys);
-    let _parts = cache.into_parts();
-    let _others = other.into_parts();
-    played?;
+    hashed_in_a_pile(&keys, &mut [Cell::new(); 2], &mut [Cell::new(); 2])?;
     Ok(())
 }
 

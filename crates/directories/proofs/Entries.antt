@@ -1,11 +1,11 @@
 -- What the calls on a table answer and leave.
 use Rattle.std.proofs.Common.{◌≡◌, ℕ, ◌+◌, ◌-◌, ◌<◌, ◌≤◌, Bool, true, false, ◌≢◌, List, map, length, get_or, take, set, replicate, is_some, Some, None, Option, sym, refl, ap, ◌∙◌, ⊎_elim, arith}
 use lib.Seq.{take-set-lt}
-use Rattle.std.proofs.lemmas.List.{length-map, length-take-le, get_or-take, get_or-set_same, get_or-set_other, length-replicate, get_or-replicate, ext_get_or, get_or-map, get_or_past}
+use Rattle.std.proofs.lemmas.List.{length-map, length-take-le, get_or-take, get_or-set_same, get_or-set_other, length-replicate, get_or-replicate, ext_get_or, get_or-map}
 use Rattle.std.proofs.lemmas.Bool.{both_ways, cases_eq, eq-eqb, ne_eqb, or_right, or_left, or_from}
 use Rattle.keys.specs.Sameness.{SameLaws}
 use Rattle.directories.specs.declared.cells.Cell.{Cell}
-use Rattle.directories.specs.Cells.{keys_of, frees_of, WroteFree}
+use Rattle.directories.specs.Cells.{keys_of, heads_of, nexts_of, frees_of, key_in, Wrote}
 use Rattle.directories.specs.Meaning.{with_keys, pairs, holds, slot_in, find, Enters, removed, freed}
 use Rattle.directories.specs.Links.{in_bucket, stands}
 use Rattle.directories.specs.Tables.{Sound, Held, Threaded, Located, table, vacant, Wiped}
@@ -22,16 +22,28 @@ module _ {K : Type 0} {same : K → K → Bool} {home : K → ℕ} (laws : SameL
   pub size_means : m ≡ length (take m (keys_of cs))
   size_means = sym slots
 
+  pub free_within : n ≤ length cs
+  free_within =
+      let cnt : n + pairs (take m (keys_of cs)) ≡ m = old.stacked.count in
+      let within : m ≤ length cs = old.within in
+      omega arith
+
+  -- the slot on top of the stack is unused
+  pub top_unused : (s : ℕ) → 0 < n → s ≡ get_or (frees_of cs) (n - 1) 0 → (s < m) × (key_in cs s ≡ None)
+  top_unused s pos e =
+      let u = old.stacked.unused (n - 1) (omega arith) in
+      (rw e u.0, rw e u.1)
+
   pub enter_full : (key : K) (cap : ℕ) → n ≡ 0 → Enters same (table cs m cap) key None (table cs m cap)
   enter_full key cap z =
       let cnt : n + pairs (take m (keys_of cs)) ≡ m = old.stacked.count in
       let all : pairs (take m (keys_of cs)) ≡ length (take m (keys_of cs)) = (let q : pairs (take m (keys_of cs)) ≡ m = omega arith in q ∙ sym slots) in
       (or_right (is_some (slot_in same key (take m (keys_of cs)))) _ (eq-eqb _ _ all), refl)
 
-  pub enter_there : (key : K) (cap i : ℕ) → Located same cs m key (Some i) → Enters same (table cs m cap) key None (table cs m cap)
-  enter_there key cap i least =
-      let at : slot_in same key (take m (keys_of cs)) ≡ Some i = sym (sought same m (keys_of cs) long key (Some i) least) in
-      (or_left (is_some (slot_in same key (take m (keys_of cs)))) _ (ap is_some at), refl)
+  pub enter_there : (key : K) (cap : ℕ) (r : Option ℕ) → Located same cs m key r → is_some r ≡ true → Enters same (table cs m cap) key None (table cs m cap)
+  enter_there key cap r least t =
+      let at : slot_in same key (take m (keys_of cs)) ≡ r = sym (sought same m (keys_of cs) long key r least) in
+      (or_left (is_some (slot_in same key (take m (keys_of cs)))) _ (ap is_some at ∙ t), refl)
 
   pub enter_sound : (key : K) (s : ℕ) (cs' : List (Cell K)) → 0 < n → s ≡ get_or (frees_of cs) (n - 1) 0 →
       Located same cs m key None →
@@ -68,26 +80,34 @@ module _ {K : Type 0} {same : K → K → Bool} {home : K → ℕ} (laws : SameL
       some_of None t = absurd (both_ways false refl t)
       some_of (Some k) t = (k, refl)
 
-  pub room : (key : K) (s : ℕ) → Located same cs m key (Some s) → n < m
-  room key s least =
+  -- while a key is in, fewer slots are free than there are
+  pub spare : (key : K) (s : ℕ) → Located same cs m key (Some s) → n < m
+  spare key s least =
       let held = found_here key s least.1 in
-      let lf : m ≤ length (frees_of cs) = rw (length-map cs (λ c. c.free)) old.within in
-      (pushed m (keys_of cs) (frees_of cs) n old.stacked long s held.0 least.0 held.1 lf).0
+      (pushed m (keys_of cs) (frees_of cs) n old.stacked long s held.0 least.0 held.1).0
+
+  pub room : (key : K) (s : ℕ) → Located same cs m key (Some s) → n < length cs
+  room key s least =
+      let push : n < m = spare key s least in
+      let within : m ≤ length cs = old.within in
+      omega arith
 
   pub remove_sound : (key : K) (s : ℕ) (c1 c2 : List (Cell K)) →
       Located same cs m key (Some s) →
       length c1 ≡ length cs → length c2 ≡ length c1 →
       keys_of c1 ≡ set (keys_of cs) s None → frees_of c1 ≡ frees_of cs → Threaded home m c1 →
-      WroteFree c1 c2 n s → Sound same home c2 m (n + 1)
+      Wrote n c1 c2 (keys_of c1) (heads_of c1) (nexts_of c1) (set (frees_of c1) n s) → Sound same home c2 m (n + 1)
   remove_sound key s c1 c2 least l1 l2 ek ef ch w =
       let held = found_here key s least.1 in
       let lf : m ≤ length (frees_of cs) = rw (length-map cs (λ c. c.free)) old.within in
-      let push = pushed m (keys_of cs) (frees_of cs) n old.stacked long s held.0 least.0 held.1 lf in
+      let push = pushed m (keys_of cs) (frees_of cs) n old.stacked long s held.0 least.0 held.1 in
+      let nm : n < m = push.0 in
       record {
         small = old.small;
         within = rw (l2 ∙ l1) old.within;
         chained = rw (w.keys, w.heads, w.nexts) ch;
-        stacked = rw (w.keys ∙ ek, w.frees ∙ ap (λ fs. set fs n s) ef) push.1;
+        stacked = rw (w.keys ∙ ek, w.frees ∙ ap (λ fs. set fs n s) ef)
+            (push.1 (set (frees_of cs) n s) (get_or-set_same (frees_of cs) n s 0 (omega arith)) (λ j l. get_or-set_other (frees_of cs) n j s 0 (omega arith)));
         apart = rw (w.keys ∙ ek) (apart_out same home laws m (keys_of cs) long old.apart s least.0);
       }
 
@@ -104,18 +124,6 @@ module _ {K : Type 0} {same : K → K → Bool} {home : K → ℕ} (laws : SameL
   pub stay_means : (key : K) (cap : ℕ) →
       Located same cs m key None → table cs m cap ≡ removed same (table cs m cap) key
   stay_means key cap least = ap (freed (table cs m cap)) (find_means key None cap least)
-
-  pub name_means : (i : ℕ) → i < m → get_or (keys_of cs) i None ≡ get_or (take m (keys_of cs)) i None
-  name_means i l = sym (get_or-take m (keys_of cs) i None l)
-
-  pub name_past : (i : ℕ) → m ≤ i → None ≡ get_or (take m (keys_of cs)) i None
-  name_past i l = sym (get_or_past (take m (keys_of cs)) i None (rw slots l))
-
-  pub free_few : n ≤ 1024
-  free_few =
-      let cnt : n + pairs (take m (keys_of cs)) ≡ m = old.stacked.count in
-      let sm : m ≤ 1024 = old.small in
-      omega arith
 
 -- a cleared table
 module _ {K : Type 0} where

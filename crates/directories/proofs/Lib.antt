@@ -6,4 +6,5 @@ pub mod Moves
 pub mod Counts
 pub mod Sounds
 pub mod Entries
+pub mod Changes
 pub mod Registers

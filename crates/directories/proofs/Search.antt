@@ -40,12 +40,6 @@ module _ {K : Type 0} (same : K → K → Bool) (home : K → ℕ) (laws : SameL
           first.there,
         )
 
-    pub seek_on : (i r : ℕ) → Seeking i → i < m → r ≡ get_or ns i 0 → i < r
-    seek_on i r s im q =
-        let first : First (in_bucket home m ks b) m (i + 1) r = rw q (old.next b i bm im (s.2 im)) in
-        let l : i + 1 ≤ r = first.from in
-        omega arith
-
 module _ {K : Type 0} (home : K → ℕ) (m : ℕ) (ks : List (Option K)) (hs ns : List ℕ) (old : Chained home m ks hs ns) (b s : ℕ) (bm : b < m) (sm : s < m) where
   abbrev Nearing : ℕ → Option ℕ → Type 0
   Nearing i o = (i < m → in_bucket home m ks b i ≡ true) × Last (in_bucket home m ks b) i o × Below s o
@@ -61,9 +55,6 @@ module _ {K : Type 0} (home : K → ℕ) (m : ℕ) (ks : List (Option K)) (hs ns
       let first : First (in_bucket home m ks b) m (i + 1) r = rw q (old.next b i bm (omega arith) here) in
       let ir : i + 1 ≤ r = first.from in
       (first.there, (omega arith, here, (λ k a z. first.passed k (omega arith) z)), l)
-
-  pub near_on : (i r : ℕ) (o : Option ℕ) → Nearing i o → i < s → r ≡ get_or ns i 0 → i < r
-  near_on i r o near l q = (near_next i r o near l q).1.0
 
   pub near_end : (i : ℕ) (o : Option ℕ) → Nearing i o → s ≤ i → Last (in_bucket home m ks b) s o
   near_end i None near l = λ k z. near.1 k (omega arith)

@@ -37,33 +37,41 @@ module _ {K : Type 0} (m : ℕ) (ks : List (Option K)) (fs : List ℕ) (n : ℕ)
         },
       )
 
-  pub pushed : (s : ℕ) (k : K) → s < m → get_or ks s None ≡ Some k → m ≤ length fs → (n < m) × Stacked m (set ks s None) (set fs n s) (n + 1)
-  pushed s k sm held mf =
+  -- another stack with the same slots in use
+  pub restacked : (fs' : List ℕ) → ((j : ℕ) → j < n → get_or fs' j 0 ≡ get_or fs j 0) → Stacked m ks fs' n
+  restacked fs' there = record {
+    unused = λ j l. rw (there j l) (old.unused j l);
+    once = λ i j a b q. old.once i j a b (sym (there i a) ∙ q ∙ there j b);
+    count = old.count;
+  }
+
+  -- a slot on top of the stack, whose other places are as they were
+  pub pushed : (s : ℕ) (k : K) → s < m → get_or ks s None ≡ Some k → (n < m)
+      × ((fs' : List ℕ) → get_or fs' n 0 ≡ s → ((j : ℕ) → j < n → get_or fs' j 0 ≡ get_or fs j 0) → Stacked m (set ks s None) fs' (n + 1))
+  pushed s k sm held =
       let at-s : get_or (take m ks) s None ≡ Some k = get_or-take m ks s None sm ∙ held in
       let less : pairs (set (take m ks) s None) + 1 ≡ pairs (take m ks) = pairs_out (take m ks) s k (rw length_slots sm) at-s in
       let swap : pairs (take m (set ks s None)) ≡ pairs (set (take m ks) s None) = ap pairs (take-set-lt m ks s None sm) in
       let cnt : n + pairs (take m ks) ≡ m = old.count in
       let nm : n < m = omega arith in
-      let here : get_or (set fs n s) n 0 ≡ s = get_or-set_same fs n s 0 (omega arith) in
-      let there : (j : ℕ) → j ≢ n → get_or (set fs n s) j 0 ≡ get_or fs j 0 = (λ j ne. get_or-set_other fs n j s 0 ne) in
       let gone : get_or (set ks s None) s None ≡ None = get_or-set_same ks s None None (omega arith) in
       let not-s : (j : ℕ) → j < n → get_or fs j 0 ≢ s = (λ j l q. some_none (get_or ks s None) k held (subst (λ (x : ℕ). get_or ks x None ≡ None) q (old.unused j l).1)) in (
         nm,
-        record {
+        λ fs' here there. record {
           unused = λ j l. ⊎_elim
               (λ (e : j ≡ n). rw e (rw here (sm, gone)))
               (λ (ne : j ≢ n).
               let u = old.unused j (omega arith) in
-              rw (there j ne) (u.0, get_or-set_other ks s (get_or fs j 0) None None (not-s j (omega arith)) ∙ u.1))
+              rw (there j (omega arith)) (u.0, get_or-set_other ks s (get_or fs j 0) None None (not-s j (omega arith)) ∙ u.1))
               (cases_eq j n);
           once = λ i j a b q. ⊎_elim
               (λ (e : i ≡ n). ⊎_elim
               (λ (f : j ≡ n). e ∙ sym f)
-              (λ (nf : j ≢ n). absurd (not-s j (omega arith) (sym (there j nf) ∙ sym q ∙ ap (λ x. get_or (set fs n s) x 0) e ∙ here)))
+              (λ (nf : j ≢ n). absurd (not-s j (omega arith) (sym (there j (omega arith)) ∙ sym q ∙ ap (λ x. get_or fs' x 0) e ∙ here)))
               (cases_eq j n))
               (λ (ne : i ≢ n). ⊎_elim
-              (λ (f : j ≡ n). absurd (not-s i (omega arith) (sym (there i ne) ∙ q ∙ ap (λ x. get_or (set fs n s) x 0) f ∙ here)))
-              (λ (nf : j ≢ n). old.once i j (omega arith) (omega arith) (sym (there i ne) ∙ q ∙ there j nf))
+              (λ (f : j ≡ n). absurd (not-s i (omega arith) (sym (there i (omega arith)) ∙ q ∙ ap (λ x. get_or fs' x 0) f ∙ here)))
+              (λ (nf : j ≢ n). old.once i j (omega arith) (omega arith) (sym (there i (omega arith)) ∙ q ∙ there j (omega arith)))
               (cases_eq j n))
               (cases_eq i n);
           count = omega arith;

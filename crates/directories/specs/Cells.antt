@@ -1,5 +1,5 @@
 -- A row of cells, by its four columns, and what one write leaves of it.
-use Rattle.std.specs.Prelude.{◌≡◌, ℕ, ◌<◌, List, map, drop, None, Option, slice_index_or, slice_set}
+use Rattle.std.specs.Prelude.{◌≡◌, ℕ, ◌<◌, List, map, drop, None, Option, slice_index_or}
 use Rattle.directories.specs.declared.cells.Cell.{Cell}
 use Rattle.directories.specs.Links.{heads_with, nexts_with, link_cell}
 
@@ -36,19 +36,6 @@ module _ {K : Type 0} where
     pub frees : frees_of new ≡ fs
     pub rest : (m : ℕ) → i < m → Beyond m old new
 
-  module _ (old new : List (Cell K)) where
-    abbrev pub WroteKey : ℕ → Option K → Type 0
-    WroteKey i v = Wrote i old new (slice_set (keys_of old) i v) (heads_of old) (nexts_of old) (frees_of old)
-
-    abbrev pub WroteHead : ℕ → ℕ → Type 0
-    WroteHead i v = Wrote i old new (keys_of old) (slice_set (heads_of old) i v) (nexts_of old) (frees_of old)
-
-    abbrev pub WroteNext : ℕ → ℕ → Type 0
-    WroteNext i v = Wrote i old new (keys_of old) (heads_of old) (slice_set (nexts_of old) i v) (frees_of old)
-
-    abbrev pub WroteFree : ℕ → ℕ → Type 0
-    WroteFree i v = Wrote i old new (keys_of old) (heads_of old) (nexts_of old) (slice_set (frees_of old) i v)
-
-    -- the link behind slot p of the chain of bucket b, or the chain's head, leads to v
-    abbrev pub WroteLink : ℕ → Option ℕ → ℕ → Type 0
-    WroteLink b p v = Wrote (link_cell b p) old new (keys_of old) (heads_with (heads_of old) b p v) (nexts_with (nexts_of old) p v) (frees_of old)
+  -- the link behind slot p of the chain of bucket b, or the chain's head, leads to v
+  abbrev pub WroteLink : List (Cell K) → List (Cell K) → ℕ → Option ℕ → ℕ → Type 0
+  WroteLink old new b p v = Wrote (link_cell b p) old new (keys_of old) (heads_with (heads_of old) b p v) (nexts_with (nexts_of old) p v) (frees_of old)

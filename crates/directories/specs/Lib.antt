@@ -3,4 +3,5 @@ pub mod Links
 pub mod Cells
 pub mod Tables
 pub mod Numbers
-pub mod Facts
+pub mod Hashed
+pub mod Numbered

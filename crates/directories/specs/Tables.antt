@@ -1,20 +1,9 @@
 -- When a row of cells is the table of a hashed directory, and what it means.
-use Rattle.std.specs.Prelude.{◌≡◌, ℕ, ◌-◌, ◌<◌, ◌≤◌, Bool, true, List, length, take, is_some, Some, None, Option, slice_index_or}
+use Rattle.std.specs.Prelude.{◌≡◌, ℕ, ◌<◌, ◌≤◌, Bool, true, List, length, take, None, Option, slice_index_or}
 use Rattle.directories.specs.declared.cells.Cell.{Cell}
-use Rattle.directories.specs.declared.hashed.HashedDirectory.{HashedDirectory}
 use Rattle.directories.specs.Cells.{keys_of, heads_of, nexts_of, frees_of, key_in}
-use Rattle.directories.specs.Meaning.{DirectoryMeaning, holds, find, Enters, removed}
+use Rattle.directories.specs.Meaning.{DirectoryMeaning, holds}
 use Rattle.directories.specs.Links.{Chained, Stacked, Apart, Least}
-
--- how many slots are free after an entry
-abbrev pub free_after : Option ℕ → ℕ → ℕ
-free_after None n = n
-free_after (Some i) n = n - 1
-
--- an entry has taken a free slot, so there was one
-abbrev pub Took : Option ℕ → ℕ → Type 0
-Took None n = Unit {0}
-Took (Some i) n = 0 < n
 
 module _ {K : Type 0} where
   -- the chains of the m buckets run through the cells
@@ -42,23 +31,6 @@ module _ {K : Type 0} where
 
   abbrev pub table : List (Cell K) → ℕ → ℕ → DirectoryMeaning K
   table cs m cap = record { keys = take m (keys_of cs); capacity = cap; admitted = λ _. true }
-
-  -- what entering and removing a key do to a table, whatever the capacity
-  abbrev pub TableEnters : (K → K → Bool) → List (Cell K) → ℕ → K → Option ℕ → List (Cell K) → Type 0
-  TableEnters same old m k r new = (cap : ℕ) → Enters same (table old m cap) k r (table new m cap)
-
-  abbrev pub TableHas : (K → K → Bool) → List (Cell K) → ℕ → K → Bool → Type 0
-  TableHas same cs m k r = (cap : ℕ) → r ≡ is_some (find same (table cs m cap) k)
-
-  abbrev pub TableLoses : (K → K → Bool) → List (Cell K) → ℕ → K → List (Cell K) → Type 0
-  TableLoses same old m k new = (cap : ℕ) → table new m cap ≡ removed same (table old m cap) k
-
-  -- the states that the calls of a hashed directory keep to, and what one means
-  abbrev pub HashedValid : (K → K → Bool) → (K → ℕ) → HashedDirectory K → Type 0
-  HashedValid same home d = Held same home d.cells.now d.capacity d.size d.free
-
-  abbrev pub hashed_meaning : HashedDirectory K → DirectoryMeaning K
-  hashed_meaning d = table d.cells.now d.size d.capacity
 
   -- a cleared cell: no key, the end of every chain, and slot i at its place on the stack
   abbrev pub vacant : ℕ → ℕ → Cell K

@@ -1,6 +1,6 @@
 //! Directories: which key stands at which slot. One trait, `Directory`, and two of its kind: one over
 //! cells that the caller supplies, for every key kind, and one for small region numbers that has no
-//! search at all. Depends on `keys` alone.
+//! search at all. Depends on `keys` and on the kit's `arrayvec`, which never allocates.
 #![tactic(auto)]
 
 mod cells;

@@ -1,87 +1,81 @@
 // The numbered directory: region numbers below 4,096, looked up directly.
-ghost use Rattle.std.specs.Prelude.{◌≡◌, ◌≤◌, min, length};
-ghost use Rattle.keys.specs.Regions.{same_number, number_home};
-ghost use Rattle.directories.specs.Facts.{numbered_distinct, numbered_respects, numbered_admitting};
+ghost use Rattle.std.specs.Prelude.{◌≡◌, ◌≤◌, min, replicate, None};
+ghost use Rattle.std.proofs.Props.{props};
 ghost use Rattle.directories.specs.Meaning.{fresh};
-ghost use Rattle.directories.specs.Numbers.{below, NoKey, NoSlot, EverySlot, NumberedValid, numbered_meaning};
+ghost use Rattle.directories.specs.Numbers.{Ranked, EverySlot, below, register};
 
 use crate::MOST_SLOTS;
 use crate::directory::Directory;
-use keys::{Key, RegionNumber};
+use arrayvec::ArrayVec;
+use keys::RegionNumber;
 
 // How many numbers are admitted: those below it.
 const NUMBERS: usize = 4_096;
-// Leads to no slot, since it is past every size.
-const NOWHERE: u16 = 1_024;
 
 /// A directory of region numbers below 4,096. A table leads from each number to its slot, so that nothing is searched for.
 #[derive(Drop)]
 pub struct NumberedDirectory {
     // The key at each slot.
-    keys: [Option<RegionNumber>; MOST_SLOTS],
-    // A stack of the unused slots, as high as `left`.
-    frees: [u16; MOST_SLOTS],
-    // The slot of each number, or `NOWHERE`.
-    slots: [u16; NUMBERS],
+    keys: ArrayVec<Option<RegionNumber>, MOST_SLOTS>,
+    // The unused slots, the next to be used last.
+    frees: ArrayVec<u16, MOST_SLOTS>,
+    // The slot of each number, if it has one.
+    slots: [Option<u16>; NUMBERS],
     capacity: usize,
-    size: usize,
-    left: usize,
+    ghost ranked: { Ranked keys.items frees.items slots capacity } by { Prim.hlevel props },
 }
 
-// Leaves no key at any slot.
-fn clear_keys(keys: &mut [Option<RegionNumber>])
-    ensures { NoKey keys.new }
+// A table that holds nothing.
+fn nothing<T: Copy, const N: usize>() -> [Option<T>; N]
+    ensures { result ≡ replicate N None }
 {
-    for x in keys.iter_mut() {
-        *x = None;
-    }
+    [None; N]
 }
 
-// Leaves no number with a slot.
-fn clear_slots(slots: &mut [u16])
-    ensures { NoSlot slots.new }
+// That many slots, none of them used.
+fn unused(size: usize) -> ArrayVec<u16, MOST_SLOTS>
+    requires { size ≤ 1024 }
+    ensures { EverySlot size result.items }
 {
-    for x in slots.iter_mut() {
-        *x = NOWHERE;
+    let mut frees = ArrayVec::new();
+    // `collect` and `extend` may fail, and this cannot.
+    for slot in 0..size {
+        frees.push(slot as u16);
     }
-}
-
-// Puts every slot on the stack.
-fn free_all(frees: &mut [u16])
-    requires { length frees.old ≤ 1024 }
-    ensures { EverySlot frees.new }
-{
-    for i in 0..frees.len() {
-        frees[i] = i as u16;
-    }
+    frees
 }
 
 impl NumberedDirectory {
+    ghost use Rattle.directories.specs.Numbered.{numbered_meaning};
+
     /// An empty directory of this capacity, or of 1,024 if it is greater.
     pub fn new(capacity: usize) -> NumberedDirectory
-        ensures kept { NumberedValid same_number number_home result }
         ensures means { numbered_meaning result ≡ fresh (min capacity 1024) below }
     {
         let least = capacity.min(MOST_SLOTS);
-        let mut keys = [None; MOST_SLOTS];
-        let mut frees = [0; MOST_SLOTS];
-        let mut slots = [0; NUMBERS];
-        clear_keys(&mut keys);
-        free_all(&mut frees);
-        clear_slots(&mut slots);
+        NumberedDirectory::sized(least, least)
+    }
+
+    // An empty directory of this size and capacity.
+    fn sized(size: usize, capacity: usize) -> NumberedDirectory
+        requires small { capacity ≤ 1024 }
+        requires within { size ≤ capacity }
+        ensures { numbered_meaning result ≡ register (replicate size None) capacity }
+    {
+        let mut keys = ArrayVec::from(nothing());
+        keys.truncate(size);
+        let frees = unused(size);
         NumberedDirectory {
             keys,
             frees,
-            slots,
-            capacity: least,
-            size: least,
-            left: least,
+            slots: nothing(),
+            capacity,
         }
     }
 }
 
 impl Directory<RegionNumber> for NumberedDirectory {
-    ghost valid = { NumberedValid };
+    ghost use Rattle.directories.specs.Numbered.{numbered_meaning, numbered_distinct, numbered_respects, numbered_admitting};
 
     ghost meaning = { numbered_meaning };
 
@@ -92,16 +86,11 @@ impl Directory<RegionNumber> for NumberedDirectory {
     ghost admitting = { numbered_admitting };
 
     fn size(&self) -> usize {
-        self.size
+        self.keys.len()
     }
 
     fn empty(&mut self, size: usize) {
-        let least = size.min(self.capacity);
-        clear_keys(&mut self.keys);
-        free_all(&mut self.frees);
-        clear_slots(&mut self.slots);
-        self.size = least;
-        self.left = least;
+        *self = NumberedDirectory::sized(size.min(self.capacity), self.capacity);
     }
 
     fn admits(&self, key: &RegionNumber) -> bool {
@@ -109,56 +98,31 @@ impl Directory<RegionNumber> for NumberedDirectory {
     }
 
     fn find(&self, key: &RegionNumber) -> Option<usize> {
-        let r = key.number as usize;
-        if r >= NUMBERS {
-            return None;
-        }
-        let s = self.slots[r] as usize;
-        if s < self.size { Some(s) } else { None }
+        let slot = self.slots.get(key.number as usize).copied().flatten()?;
+        Some(slot as usize)
     }
 
     fn name(&self, slot: usize) -> Option<RegionNumber> {
-        if slot < self.size {
-            self.keys[slot]
-        } else {
-            None
-        }
+        self.keys.get(slot).copied().flatten()
     }
 
     fn enter(&mut self, key: RegionNumber) -> Option<usize> {
-        let r = key.number as usize;
-        if r >= NUMBERS {
+        if !self.admits(&key) || self.find(&key).is_some() {
             return None;
         }
-        if (self.slots[r] as usize) < self.size {
-            return None;
-        }
-        if self.left == 0 {
-            return None;
-        }
-        let top = self.left - 1;
-        let s = self.frees[top];
-        self.keys[s as usize] = Some(key);
-        self.slots[r] = s;
-        self.left = top;
-        Some(s as usize)
+        let slot = self.frees.pop()?;
+        self.keys[slot as usize] = Some(key);
+        self.slots[key.number as usize] = Some(slot);
+        Some(slot as usize)
     }
 
     fn remove(&mut self, key: &RegionNumber) -> bool {
-        let r = key.number as usize;
-        if r >= NUMBERS {
+        let Some(slot) = self.find(key) else {
             return false;
-        }
-        let s = self.slots[r];
-        if (s as usize) < self.size {
-            let left = self.left;
-            self.keys[s as usize] = None;
-            self.slots[r] = NOWHERE;
-            self.frees[left] = s;
-            self.left = left + 1;
-            true
-        } else {
-            false
-        }
+        };
+        self.keys[slot] = None;
+        self.slots[key.number as usize] = None;
+        self.frees.push(slot as u16);
+        true
     }
 }

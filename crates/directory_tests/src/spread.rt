@@ -2,52 +2,47 @@
 ghost use Rattle.std.specs.Prelude.{◌<◌};
 
 use keys::{Key, PartName, RegionNumber};
+use std::array;
 use std::test::Fail;
 
 // How many of the homes fall into one bucket.
 fn in_bucket(homes: &[u32], buckets: u32, bucket: u32) -> usize
     requires { 0 < buckets }
 {
-    let mut n: usize = 0;
-    for home in homes {
-        if *home % buckets == bucket {
-            n = n.saturating_add(1);
-        }
-    }
-    n
+    homes
+        .iter()
+        .filter(|home| **home % buckets == bucket)
+        .count()
 }
 
 // The most that fall into any one.
 fn fullest(homes: &[u32], buckets: u32) -> usize
     requires { 0 < buckets }
 {
-    let mut most = 0;
-    for bucket in 0..buckets {
-        most = in_bucket(homes, buckets, bucket).max(most);
-    }
-    most
+    (0..buckets)
+        .map(|bucket| in_bucket(homes, buckets, bucket))
+        .max()
+        .unwrap_or(0)
 }
 
 // The homes of 64 region numbers, each `stride` after the one before.
 fn numbers(stride: u16) -> [u32; 64] {
-    let mut homes = [0; 64];
-    for i in 0..64 {
-        homes[i] = RegionNumber {
+    array::from_fn(|i| {
+        RegionNumber {
             number: i as u32 * stride as u32,
         }
-        .home();
-    }
-    homes
+        .home()
+    })
 }
 
 // The homes of the names GEAR-00 to GEAR-63.
 fn gears() -> Option<[u32; 64]> {
     let mut homes = [0; 64];
-    for i in 0..64 {
+    for (i, home) in homes.iter_mut().enumerate() {
         let tens = (i / 10) as u8;
         let ones = (i % 10) as u8;
         let text = [b'G', b'E', b'A', b'R', b'-', b'0' + tens, b'0' + ones];
-        homes[i] = PartName::new(&text)?.home();
+        *home = PartName::new(&text)?.home();
     }
     Some(homes)
 }

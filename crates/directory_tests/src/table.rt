@@ -14,7 +14,7 @@ pub(crate) enum Step<K> {
     Remove(K, bool),
 }
 
-// Both absent, or the same key.
+// Both absent, or the same key. No `==`, since keys are told apart by sameness.
 fn same_names<K: Key>(a: Option<K>, b: Option<K>) -> bool {
     match (a, b) {
         (Some(x), Some(y)) => x.same(&y),
@@ -24,10 +24,8 @@ fn same_names<K: Key>(a: Option<K>, b: Option<K>) -> bool {
 }
 
 // Makes one call, and says whether the answer is the expected one.
-fn agrees<K: Key, D: Directory<K>>(d: &mut D, step: &Step<K>) -> bool
-    requires { D.Directory.valid K.Key.sameness K.Key.place d.old }
-    ensures { D.Directory.valid K.Key.sameness K.Key.place d.new }
-{
+fn agrees<K: Key, D: Directory<K>>(d: &mut D, step: &Step<K>) -> bool {
+    // A step is a value with the answer that is expected of it, so that a table of them is the test.
     match *step {
         Step::Size(size) => d.size() == size,
         Step::Empty(size) => {
@@ -43,14 +41,6 @@ fn agrees<K: Key, D: Directory<K>>(d: &mut D, step: &Step<K>) -> bool
 }
 
 /// Makes the calls one after another, and answers the place of the first whose answer is not the expected one.
-pub(crate) fn first_wrong<K: Key, D: Directory<K>>(d: &mut D, steps: &[Step<K>]) -> Option<usize>
-    requires { D.Directory.valid K.Key.sameness K.Key.place d.old }
-    ensures { D.Directory.valid K.Key.sameness K.Key.place d.new }
-{
-    for i in 0..steps.len() {
-        if !agrees(d, &steps[i]) {
-            return Some(i);
-        }
-    }
-    None
+pub(crate) fn first_wrong<K: Key, D: Directory<K>>(d: &mut D, steps: &[Step<K>]) -> Option<usize> {
+    steps.iter().position(|step| !agrees(d, step))
 }

@@ -19,9 +19,7 @@ fn main(rt: HostRuntime) -> anyhow::Result<()> {
     };
     println!(rt; "slot credit")?;
     for leaver in forecast.leavers.as_slice() {
-        let slot = leaver.slot;
-        let credit = leaver.credit;
-        println!(rt; "{slot} {credit}")?;
+        println!(rt; "{} {}", leaver.slot, leaver.credit)?;
     }
     if !forecast.agrees {
         println!(rt; "the flat order disagrees")?;

@@ -1,2 +1,3 @@
 mod Tables
 mod Leavings
+mod Alike

@@ -1,13 +1,14 @@
 -- How the code's reading of a line comes to what the definitions say.
-use Rattle.std.proofs.Common.{◌≡◌, ℕ, zero, suc, ◌+◌, ◌-◌, ◌*◌, ◌<◌, ◌≤◌, min, Bool, true, false, cond, ◌||◌, eqb, List, [], ◌∷◌, ◌++◌, length, get_or, take, drop, Some, None, Ok, Err, Option, Result, sym, refl, ap, ◌∙◌, ap₂, ⊎_elim, arith}
+use Rattle.std.proofs.Common.{◌≡◌, ℕ, zero, suc, ◌+◌, ◌-◌, ◌*◌, ◌<◌, ◌≤◌, min, true, false, cond, eqb, List, [], ◌∷◌, ◌++◌, length, get_or, take, drop, Some, None, Ok, Err, Option, Result, sym, refl, ap, ◌∙◌, ap₂, append_assoc, ⊎_elim, arith, ◌≢◌}
 use Rattle.std.specs.Option.{option_map}
-use Rattle.std.specs.List.{between}
-use Rattle.std.proofs.lemmas.List.Edits.{between_none, between_more, length-between}
-use Rattle.std.proofs.lemmas.List.{drop_more, drop_all, take_rest}
-use Rattle.std.proofs.lemmas.Bool.{cases_Bool, eq-eqb, ne_eqb, cond-true, cond-false, both_ways, or_left, cond_both, cases_lt}
+use Rattle.std.specs.Char.{is_ascii_digit}
+use Rattle.std.specs.Option.{MatchOption}
+use Rattle.std.specs.List.{AllWithin, HoldsAt}
+use Rattle.std.proofs.lemmas.List.{drop_more, drop_all, take_rest, append-nil, length-take-le}
+use Rattle.std.proofs.lemmas.Bool.{cases_Bool, eq-eqb, ne_eqb, cond-true, cond-false, both_ways, cond_both, cases_lt}
 use Rattle.std.proofs.lemmas.Slice.Eq.{bytes_eq-Decides}
 use Rattle.std.specs.Str.{bytes_eq}
-use Rattle.forecasts.specs.Table.{row, is_digit, digits_from, decimal_value, capped, capped_row, halves, both, two_values, listed, judged, row_of, refusal, led, rows_from, names, reading}
+use Rattle.forecasts.specs.Table.{digits_from, decimal_value, capped, capped_row, FirstPlace, halves, both, two_values, judged, row_of, refusal, led, rows_from, names, reading}
 use Rattle.forecasts.specs.declared.fault.Reason.{Reason}
 use Rattle.forecasts.specs.declared.fault.Reason.TheVariants.{Names, Unended}
 use Rattle.forecasts.specs.declared.table.Row.{Row}
@@ -18,12 +19,12 @@ pub digits_capped : (m n : ℕ) (bs : List ℕ) → capped m ≡ capped n → op
 digits_capped m n [] e = ap Some e
 digits_capped m n (b ∷ bs) e =
     ⊎_elim
-    (λ t. ap (option_map capped) (cond-true (is_digit b) (digits_from (10 * m + (b - 48)) bs) None t)
+    (λ t. ap (option_map capped) (cond-true (is_ascii_digit b) (digits_from (10 * m + (b - 48)) bs) None t)
     ∙ digits_capped (10 * m + (b - 48)) (10 * n + (b - 48)) bs (omega arith)
-    ∙ ap (option_map capped) (sym (cond-true (is_digit b) (digits_from (10 * n + (b - 48)) bs) None t)))
-    (λ t. ap (option_map capped) (cond-false (is_digit b) (digits_from (10 * m + (b - 48)) bs) None t)
-    ∙ ap (option_map capped) (sym (cond-false (is_digit b) (digits_from (10 * n + (b - 48)) bs) None t)))
-    (cases_Bool (is_digit b))
+    ∙ ap (option_map capped) (sym (cond-true (is_ascii_digit b) (digits_from (10 * n + (b - 48)) bs) None t)))
+    (λ t. ap (option_map capped) (cond-false (is_ascii_digit b) (digits_from (10 * m + (b - 48)) bs) None t)
+    ∙ ap (option_map capped) (sym (cond-false (is_ascii_digit b) (digits_from (10 * n + (b - 48)) bs) None t)))
+    (cases_Bool (is_ascii_digit b))
 
 decimal_some : (bs : List ℕ) → eqb (length bs) 0 ≡ false → decimal_value bs ≡ digits_from 0 bs
 decimal_some [] e = absurd (both_ways true e refl)
@@ -32,18 +33,18 @@ decimal_some (b ∷ bs) e = refl
 -- the loop over the digits: v is what is read of the first i
 module _ (bs : List ℕ) (i v : ℕ) (some : eqb (length bs) 0 ≡ false)
     (so_far : option_map capped (digits_from v (drop i bs)) ≡ option_map capped (digits_from 0 bs)) where
-  pub digits_stop : i < length bs → is_digit (get_or bs i 0) ≡ false → None ≡ option_map capped (decimal_value bs)
+  pub digits_stop : i < length bs → is_ascii_digit (get_or bs i 0) ≡ false → None ≡ option_map capped (decimal_value bs)
   digits_stop h e =
       sym (ap (option_map capped) (decimal_some bs some) ∙ sym so_far
       ∙ ap (λ (xs : List ℕ). option_map capped (digits_from v xs)) (drop_more bs i 0 h)
-      ∙ ap (option_map capped) (cond-false (is_digit (get_or bs i 0)) (digits_from (10 * v + (get_or bs i 0 - 48)) (drop (i + 1) bs)) None e))
+      ∙ ap (option_map capped) (cond-false (is_ascii_digit (get_or bs i 0)) (digits_from (10 * v + (get_or bs i 0 - 48)) (drop (i + 1) bs)) None e))
 
-  pub digits_more : (w : ℕ) → w ≡ min (10 * v + (get_or bs i 0 - 48)) 100000 → i < length bs → is_digit (get_or bs i 0) ≡ true →
+  pub digits_more : (w : ℕ) → w ≡ min (10 * v + (get_or bs i 0 - 48)) 100000 → i < length bs → is_ascii_digit (get_or bs i 0) ≡ true →
       option_map capped (digits_from w (drop (i + 1) bs)) ≡ option_map capped (digits_from 0 bs)
   digits_more w e h d =
       digits_capped w (10 * v + (get_or bs i 0 - 48)) (drop (i + 1) bs) (omega arith)
       ∙ sym (ap (λ (xs : List ℕ). option_map capped (digits_from v xs)) (drop_more bs i 0 h)
-      ∙ ap (option_map capped) (cond-true (is_digit (get_or bs i 0)) (digits_from (10 * v + (get_or bs i 0 - 48)) (drop (i + 1) bs)) None d))
+      ∙ ap (option_map capped) (cond-true (is_ascii_digit (get_or bs i 0)) (digits_from (10 * v + (get_or bs i 0 - 48)) (drop (i + 1) bs)) None d))
       ∙ so_far
 
   pub digits_all : v ≤ 100000 → length bs ≤ i → Some v ≡ option_map capped (decimal_value bs)
@@ -52,6 +53,12 @@ module _ (bs : List ℕ) (i v : ℕ) (some : eqb (length bs) 0 ≡ false)
       ap Some e ∙ sym (ap (λ (xs : List ℕ). option_map capped (digits_from v xs)) (drop_all i bs l)) ∙ so_far ∙ ap (option_map capped) (sym (decimal_some bs some))
 
 -- ---- a line
+
+-- the first place of a byte, as the library's search for it says it
+pub first_place : (b : ℕ) (bs : List ℕ) (r : Option ℕ) →
+    MatchOption r (AllWithin (λ x. x ≢ b) bs 0 (length bs)) (λ i. (i < length bs) × HoldsAt (λ x. x ≡ b) bs i × AllWithin (λ x. x ≢ b) bs 0 i) → FirstPlace b bs r
+first_place b bs None h = λ k l. h k 0 (omega arith) l
+first_place b bs (Some i) h = (h.0, h.1 0, λ k l. h.2 k 0 (omega arith) l)
 
 pub halves_none : (bs : List ℕ) → ((k : ℕ) → k < length bs → get_or bs k 0 ≡ 32 → ⊥) → halves bs ≡ None
 halves_none [] h = refl
@@ -78,21 +85,6 @@ values_are line i h p q =
     ap₂ both p (q ∙ ap (λ (bs : List ℕ). option_map capped (decimal_value bs)) (take_rest line (i + 1)))
     ∙ both_capped (decimal_value (take i line)) (decimal_value (drop (i + 1) line)) ∙ ap (λ (z : Option (List ℕ × List ℕ)). option_map capped_row (two_values z)) (sym h)
 
--- ---- the rows before a line
-
-module _ (s : ℕ) (rows : List Row) (i : ℕ) (so_far : listed s rows ≡ listed s (drop i rows)) where
-  abbrev this : Row
-  this = get_or rows i (row 0 0)
-
-  pub listed_here : i < length rows → this.slot ≡ s → listed s rows ≡ true
-  listed_here h e = so_far ∙ ap (listed s) (drop_more rows i (row 0 0) h) ∙ or_left (eqb this.slot s) (listed s (drop (i + 1) rows)) (eq-eqb this.slot s e)
-
-  pub listed_more : i < length rows → (this.slot ≡ s → ⊥) → listed s rows ≡ listed s (drop (i + 1) rows)
-  listed_more h e = so_far ∙ ap (listed s) (drop_more rows i (row 0 0) h) ∙ ap (λ (b : Bool). b || listed s (drop (i + 1) rows)) (ne_eqb this.slot s e)
-
-  pub listed_all : length rows ≤ i → listed s rows ≡ false
-  listed_all l = so_far ∙ ap (listed s) (drop_all i rows l)
-
 -- ---- the lines
 
 both_none : (a : Option ℕ) → both a None ≡ None
@@ -115,52 +107,52 @@ row_long rows line r e = ⊎_elim
     (λ h. h)
     (cases_lt (length line) 3)
 
--- the loop over the text: `rows` are those of the lines that end before `start`
-module _ (text : List ℕ) (rows : List Row) (start i : ℕ) (order : start ≤ i)
-    (so_far : rows_from [] [] text ≡ rows_from rows (between start i text) (drop i text)) where
-  module _ (h : i < length text) where
-    stepped : rows_from [] [] text ≡ rows_from rows (between start i text) (get_or text i 0 ∷ drop (i + 1) text)
-    stepped = so_far ∙ ap (rows_from rows (between start i text)) (drop_more text i 0 h)
+-- what a line leads to, behind the first bytes of it
+row_read : (rows : List Row) (start rest : List ℕ) (i : ℕ) → i < length rest → get_or rest i 0 ≡ 10 → ((k : ℕ) → k < i → get_or rest k 0 ≢ 10) →
+    rows_from rows start rest ≡ led (length rows + 2) (row_of rows (start ++ take i rest)) (λ r. rows_from (rows ++ r ∷ []) [] (drop (i + 1) rest))
+row_read rows start [] i h e n = absurd (omega arith)
+row_read rows start (b ∷ bs) zero h e n =
+    cond-true (eqb b 10) (led (length rows + 2) (row_of rows start) (λ r. rows_from (rows ++ r ∷ []) [] bs)) (rows_from rows (start ++ b ∷ []) bs) (eq-eqb b 10 e)
+    ∙ ap (λ (xs : List ℕ). led (length rows + 2) (row_of rows xs) (λ r. rows_from (rows ++ r ∷ []) [] bs)) (sym (append-nil start))
+row_read rows start (b ∷ bs) (suc i) h e n =
+    let z : suc (i + 1) ≡ suc i + 1 = omega arith in
+    cond-false (eqb b 10) (led (length rows + 2) (row_of rows start) (λ r. rows_from (rows ++ r ∷ []) [] bs)) (rows_from rows (start ++ b ∷ []) bs) (ne_eqb b 10 (n 0 (omega arith)))
+    ∙ row_read rows (start ++ b ∷ []) bs i (omega arith) e (λ k l. n (suc k) (omega arith))
+    ∙ ap (λ (xs : List ℕ). led (length rows + 2) (row_of rows xs) (λ r. rows_from (rows ++ r ∷ []) [] (drop (i + 1) bs))) (append_assoc start (b ∷ []) (take i bs))
+    ∙ ap (λ (j : ℕ). led (length rows + 2) (row_of rows (start ++ (b ∷ take i bs))) (λ r. rows_from (rows ++ r ∷ []) [] (drop j (b ∷ bs)))) z
 
-    ended : get_or text i 0 ≡ 10 →
-        rows_from [] [] text ≡ led (length rows + 2) (row_of rows (between start i text)) (λ r. rows_from (rows ++ r ∷ []) [] (drop (i + 1) text))
-    ended e = stepped ∙ cond-true (eqb (get_or text i 0) 10)
-        (led (length rows + 2) (row_of rows (between start i text)) (λ r. rows_from (rows ++ r ∷ []) [] (drop (i + 1) text)))
-        (rows_from rows (between start i text ++ get_or text i 0 ∷ []) (drop (i + 1) text)) (eq-eqb (get_or text i 0) 10 e)
+-- what is left when no line ends any more
+rest_read : (rows : List Row) (start rest : List ℕ) → ((k : ℕ) → k < length rest → get_or rest k 0 ≢ 10) →
+    rows_from rows start rest ≡ cond (eqb (length (start ++ rest)) 0) (Ok rows) (refusal (length rows + 2) Unended)
+rest_read rows start [] n = ap (λ (xs : List ℕ). cond (eqb (length xs) 0) (Ok rows) (refusal (length rows + 2) Unended)) (sym (append-nil start))
+rest_read rows start (b ∷ bs) n =
+    cond-false (eqb b 10) (led (length rows + 2) (row_of rows start) (λ r. rows_from (rows ++ r ∷ []) [] bs)) (rows_from rows (start ++ b ∷ []) bs) (ne_eqb b 10 (n 0 (omega arith)))
+    ∙ rest_read rows (start ++ b ∷ []) bs (λ k l. n (suc k) (omega arith))
+    ∙ ap (λ (xs : List ℕ). cond (eqb (length xs) 0) (Ok rows) (refusal (length rows + 2) Unended)) (append_assoc start (b ∷ []) bs)
 
-    pub lines_refused : get_or text i 0 ≡ 10 → (why : Reason) → Err why ≡ row_of rows (between start i text) → rows_from [] [] text ≡ refusal (length rows + 2) why
-    lines_refused e why f = ended e
-        ∙ ap (λ (z : Result Row Reason). led (length rows + 2) z (λ r. rows_from (rows ++ r ∷ []) [] (drop (i + 1) text))) (sym f)
+-- the loop over the lines: `rows` are those of the lines before `rest`
+module _ (text rest : List ℕ) (rows : List Row) (so_far : rows_from [] [] text ≡ rows_from rows [] rest) where
+  module _ (i : ℕ) (first : FirstPlace 10 rest (Some i)) where
+    pub line_refused : (why : Reason) → Err why ≡ row_of rows (take i rest) → rows_from [] [] text ≡ refusal (length rows + 2) why
+    line_refused why f = so_far ∙ row_read rows [] rest i first.0 first.1 first.2
+        ∙ ap (λ (z : Result Row Reason). led (length rows + 2) z (λ r. rows_from (rows ++ r ∷ []) [] (drop (i + 1) rest))) (sym f)
 
-    pub lines_row : get_or text i 0 ≡ 10 → (r : Row) → Ok r ≡ row_of rows (between start i text) →
-        rows_from [] [] text ≡ rows_from (rows ++ r ∷ []) (between (i + 1) (i + 1) text) (drop (i + 1) text)
-    lines_row e r f = ended e
-        ∙ ap (λ (z : Result Row Reason). led (length rows + 2) z (λ q. rows_from (rows ++ q ∷ []) [] (drop (i + 1) text))) (sym f)
-        ∙ ap (λ (zs : List ℕ). rows_from (rows ++ r ∷ []) zs (drop (i + 1) text)) (sym (between_none text (i + 1)))
+    pub line_row : (r : Row) → Ok r ≡ row_of rows (take i rest) → rows_from [] [] text ≡ rows_from (rows ++ r ∷ []) [] (drop (i + 1) rest)
+    line_row r f = so_far ∙ row_read rows [] rest i first.0 first.1 first.2
+        ∙ ap (λ (z : Result Row Reason). led (length rows + 2) z (λ q. rows_from (rows ++ q ∷ []) [] (drop (i + 1) rest))) (sym f)
 
-    pub lines_long : (r : Row) → Ok r ≡ row_of rows (between start i text) → start + 3 ≤ i
-    lines_long r f =
-        let l = row_long rows (between start i text) r (sym f) in
-        let n = length-between text start i (omega arith) in
+    pub line_long : (r : Row) → Ok r ≡ row_of rows (take i rest) → 3 ≤ i
+    line_long r f =
+        let l = row_long rows (take i rest) r (sym f) in
+        let n = length-take-le i rest (omega arith) in
         omega arith
 
-    pub lines_on : (get_or text i 0 ≡ 10 → ⊥) → rows_from [] [] text ≡ rows_from rows (between start (i + 1) text) (drop (i + 1) text)
-    lines_on e = stepped ∙ cond-false (eqb (get_or text i 0) 10)
-        (led (length rows + 2) (row_of rows (between start i text)) (λ r. rows_from (rows ++ r ∷ []) [] (drop (i + 1) text)))
-        (rows_from rows (between start i text ++ get_or text i 0 ∷ []) (drop (i + 1) text)) (ne_eqb (get_or text i 0) 10 e)
-        ∙ ap (λ (zs : List ℕ). rows_from rows zs (drop (i + 1) text)) (sym (between_more text start i 0 order h))
+  module _ (none : FirstPlace 10 rest None) where
+    pub rest_unended : eqb (length rest) 0 ≡ false → rows_from [] [] text ≡ refusal (length rows + 2) Unended
+    rest_unended e = so_far ∙ rest_read rows [] rest none ∙ cond-false (eqb (length rest) 0) (Ok rows) (refusal (length rows + 2) Unended) e
 
-  module _ (h : i ≡ length text) where
-    over : rows_from [] [] text ≡ cond (eqb (length (between start i text)) 0) (Ok rows) (refusal (length rows + 2) Unended)
-    over = so_far ∙ ap (rows_from rows (between start i text)) (drop_all i text (omega arith))
-
-    pub lines_unended : start < length text → rows_from [] [] text ≡ refusal (length rows + 2) Unended
-    lines_unended l = let n = length-between text start i (omega arith) in
-        over ∙ cond-false (eqb (length (between start i text)) 0) (Ok rows) (refusal (length rows + 2) Unended) (ne_eqb (length (between start i text)) 0 (omega arith))
-
-    pub lines_all : length text ≤ start → rows_from [] [] text ≡ Ok rows
-    lines_all l = let n = length-between text start i (omega arith) in
-        over ∙ cond-true (eqb (length (between start i text)) 0) (Ok rows) (refusal (length rows + 2) Unended) (eq-eqb (length (between start i text)) 0 (omega arith))
+    pub rest_none : eqb (length rest) 0 ≡ true → rows_from [] [] text ≡ Ok rows
+    rest_none e = so_far ∙ rest_read rows [] rest none ∙ cond-true (eqb (length rest) 0) (Ok rows) (refusal (length rows + 2) Unended) e
 
 -- ---- the whole text
 

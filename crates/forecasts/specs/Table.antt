@@ -1,6 +1,8 @@
 -- The table of slots and costs: the line `slot cost`, then a slot, a space and a cost on each line, and LF at the end of each.
-use Rattle.std.specs.Prelude.{◌≡◌, ℕ, ◌+◌, ◌-◌, ◌*◌, ◌<◌, min, Bool, false, cond, ◌&&◌, ◌||◌, List, [], ◌∷◌, ◌++◌, length, take, drop, Some, None, Ok, Err, codes, Option, Result, ◌==◌, ◌≢◌, nat_le, nat_lt, slice_index}
+use Rattle.std.specs.Prelude.{◌≡◌, ℕ, ◌+◌, ◌-◌, ◌*◌, ◌<◌, min, Bool, cond, ◌&&◌, List, [], ◌∷◌, ◌++◌, length, take, drop, Some, None, Ok, Err, codes, Option, Result, ◌==◌, ◌≢◌, nat_le, nat_lt, slice_index}
 use Rattle.std.specs.Option.{option_map}
+use Rattle.std.specs.List.{list_any}
+use Rattle.std.specs.Char.{is_ascii_digit}
 use Rattle.std.specs.Str.{bytes_eq}
 use Rattle.forecasts.specs.declared.table.Row.{Row}
 use Rattle.forecasts.specs.declared.fault.Reason.{Reason}
@@ -14,14 +16,10 @@ row s c = record { slot = s; cost = c }
 
 -- ---- a line
 
--- From '0' to '9'.
-abbrev pub is_digit : ℕ → Bool
-is_digit b = nat_le 48 b && nat_le b 57
-
--- The value of decimal digits behind a value of n; absent if some byte is no digit.
+-- The value of decimal digits behind a value of n; absent if some byte is none of '0' to '9'.
 abbrev pub digits_from : ℕ → List ℕ → Option ℕ
 digits_from n [] = Some n
-digits_from n (b ∷ bs) = cond (is_digit b) (digits_from (10 * n + (b - 48)) bs) None
+digits_from n (b ∷ bs) = cond (is_ascii_digit b) (digits_from (10 * n + (b - 48)) bs) None
 
 -- A decimal value: one digit or more.
 abbrev pub decimal_value : List ℕ → Option ℕ
@@ -33,10 +31,10 @@ abbrev pub halves : List ℕ → Option (List ℕ × List ℕ)
 halves [] = None
 halves (b ∷ bs) = cond (b == 32) (Some ([], bs)) (option_map (λ (h : List ℕ × List ℕ). (b ∷ h.0, h.1)) (halves bs))
 
--- The place of the first space.
-abbrev pub FirstSpace : List ℕ → Option ℕ → Type 0
-FirstSpace bs None = (k : ℕ) → k < length bs → slice_index bs k ≢ 32
-FirstSpace bs (Some i) = (i < length bs) × (slice_index bs i ≡ 32) × ((k : ℕ) → k < i → slice_index bs k ≢ 32)
+-- The first place of a byte, if it stands anywhere.
+abbrev pub FirstPlace : ℕ → List ℕ → Option ℕ → Type 0
+FirstPlace b bs None = (k : ℕ) → k < length bs → slice_index bs k ≢ b
+FirstPlace b bs (Some i) = (i < length bs) × (slice_index bs i ≡ b) × ((k : ℕ) → k < i → slice_index bs k ≢ b)
 
 abbrev pub both : Option ℕ → Option ℕ → Option Row
 both None c = None
@@ -50,8 +48,7 @@ two_values (Some h) = both (decimal_value h.0) (decimal_value h.1)
 
 -- Whether some row has the slot.
 abbrev pub listed : ℕ → List Row → Bool
-listed s [] = false
-listed s (r ∷ rs) = r.slot == s || listed s rs
+listed s rows = list_any (λ (r : Row). r.slot == s) rows
 
 -- A value as the code holds it: 100,000 stands for all that are greater, and no slot or cost is as great.
 abbrev pub capped : ℕ → ℕ

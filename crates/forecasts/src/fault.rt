@@ -53,22 +53,22 @@ impl From<AllocError> for ForecastError {
     }
 }
 
-fn told(reason: Reason) -> &'static str {
-    match reason {
-        Reason::Names => "the first line is not 'slot cost'",
-        Reason::Values => "not two decimal values with one space between",
-        Reason::Slot => "the slot is above 1023",
-        Reason::Twice => "the slot stands in an earlier row",
-        Reason::Cost => "the cost is 0 or above 65280",
-        Reason::Unended => "the line does not end in LF",
+impl fmt::Display for Reason {
+    fn fmt<W: fmt::Write>(&self, f: &mut fmt::Formatter<W>) -> fmt::Result {
+        match self {
+            Reason::Names => write!(f, "the first line is not 'slot cost'"),
+            Reason::Values => write!(f, "not two decimal values with one space between"),
+            Reason::Slot => write!(f, "the slot is above 1023"),
+            Reason::Twice => write!(f, "the slot stands in an earlier row"),
+            Reason::Cost => write!(f, "the cost is 0 or above 65280"),
+            Reason::Unended => write!(f, "the line does not end in LF"),
+        }
     }
 }
 
 impl fmt::Display for LineFault {
     fn fmt<W: fmt::Write>(&self, f: &mut fmt::Formatter<W>) -> fmt::Result {
-        let line = self.line;
-        let why = told(self.reason);
-        write!(f, "line {line}: {why}")
+        write!(f, "line {}: {}", self.line, self.reason)
     }
 }
 

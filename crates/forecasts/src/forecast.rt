@@ -1,4 +1,4 @@
-ghost use Rattle.std.specs.Prelude.{◌≡◌, Decides, MatchResult};
+ghost use Rattle.std.specs.Prelude.{MatchResult};
 ghost use Rattle.forecasts.specs.Leaving.{Foretells};
 ghost use Rattle.forecasts.specs.Table.{Blames};
 
@@ -13,14 +13,8 @@ use std::alloc::Global;
 pub struct Forecast {
     /// Who leaves a pile, one after the other.
     pub leavers: Vec<Expelled>,
-    /// Whether a flat order answers the same.
+    /// Whether a flat order answers the same. It is an answer of its own, and no `Result`: the leavers are told either way.
     pub agrees: bool,
-}
-
-fn same(xs: &[Expelled], ys: &[Expelled]) -> bool
-    ensures { Decides result (xs.now ≡ ys.now) }
-{
-    xs == ys
 }
 
 /// Reads the table, and runs a pile and a flat order over its rows.
@@ -32,7 +26,7 @@ pub fn foretell(heap: Global, text: &[u8]) -> Result<Forecast, ForecastError>
     let by_pile = leavers(heap, &mut pile, rows.as_slice())?;
     let mut flat = FlatOrder::new();
     let by_flat = leavers(heap, &mut flat, rows.as_slice())?;
-    let agrees = same(by_pile.as_slice(), by_flat.as_slice());
+    let agrees = by_pile.as_slice() == by_flat.as_slice();
     Ok(Forecast {
         leavers: by_pile,
         agrees,

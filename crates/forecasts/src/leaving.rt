@@ -8,9 +8,7 @@ use std::alloc::{AllocError, Global};
 
 // Places every row, one after the other.
 fn place_all<O: Order>(order: &mut O, rows: &[Row])
-    requires { O.Order.valid order.old }
-    ensures still { O.Order.valid order.new }
-    ensures after { O.Order.meaning order.new ≡ all_placed (O.Order.meaning order.old) rows.now }
+    ensures { O.Order.meaning order.new ≡ all_placed (O.Order.meaning order.old) rows.now }
 {
     for row in rows {
         let _ = order.place(row.slot, row.cost);
@@ -19,10 +17,8 @@ fn place_all<O: Order>(order: &mut O, rows: &[Row])
 
 // Expels all, and adds each answer.
 fn drain<O: Order>(order: &mut O, gone: &mut Vec<Expelled>)
-    requires kept { O.Order.valid order.old }
     requires bare { gone.old.items ≡ [] }
     requires room { vec_len gone.old + length (O.Order.meaning order.old).waiting ≤ vec_capacity gone.old }
-    ensures still { O.Order.valid order.new }
     ensures after { O.Order.meaning order.new ≡ emptied (O.Order.meaning order.old) }
     ensures answer { gone.new.items ≡ departures (O.Order.meaning order.old) }
 {
@@ -38,8 +34,6 @@ pub fn leavers<O: Order>(
     order: &mut O,
     rows: &[Row],
 ) -> Result<Vec<Expelled>, AllocError>
-    requires { O.Order.valid order.old }
-    ensures still { O.Order.valid order.new }
     ensures after { O.Order.meaning order.new ≡ (if is_ok result then emptied (O.Order.meaning order.old) else O.Order.meaning order.old) }
     ensures answer { IfOk result (λ v. v.items ≡ foretold (O.Order.meaning order.old) rows.now) }
 {

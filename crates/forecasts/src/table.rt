@@ -1,6 +1,6 @@
 ghost use Rattle.std.specs.Prelude.{◌≡◌, ◌/◌, ◌<◌, [], length, Ok, Err, vec_capacity, MatchResult};
 ghost use Rattle.std.specs.Option.{option_map};
-ghost use Rattle.forecasts.specs.Table.{capped, halves, listed, reading, Blames, FirstSpace, decimal_value, two_values, row_of, is_digit, rows_from, capped_row};
+ghost use Rattle.forecasts.specs.Table.{capped, halves, listed, reading, Blames, FirstPlace, decimal_value, two_values, row_of, rows_from, capped_row};
 
 use crate::{ForecastError, LineFault, Reason};
 use orders::{FLAT_SPAN, SLOTS};
@@ -18,23 +18,11 @@ const NAMES: &[u8; 10] = b"slot cost\n";
 // The greatest value that is told from others: no slot or cost is as great.
 const CAP: u32 = 100_000;
 
-// The first space of the line.
-fn find_space(line: &[u8]) -> Option<usize>
-    ensures { FirstSpace line.now result }
+// The first place at which the byte stands. (`traces` has the like, and stands on no crate that this one stands on.)
+fn find(bytes: &[u8], byte: u8) -> Option<usize>
+    ensures { FirstPlace byte bytes.now result }
 {
-    for (i, byte) in line.iter().enumerate() {
-        if *byte == b' ' {
-            return Some(i);
-        }
-    }
-    None
-}
-
-// Whether the byte is a decimal digit.
-fn is_digit(byte: u8) -> bool
-    ensures { result ≡ is_digit byte }
-{
-    byte >= b'0' && byte <= b'9'
+    bytes.iter().position(|b| *b == byte)
 }
 
 // A decimal value, or `CAP` in the place of a greater one.
@@ -46,7 +34,7 @@ fn decimal(digits: &[u8]) -> Option<u32>
     }
     let mut value = 0;
     for byte in digits {
-        if !is_digit(*byte) {
+        if !byte.is_ascii_digit() {
             return None;
         }
         value = (10 * value + (*byte - b'0') as u32).min(CAP);
@@ -58,7 +46,7 @@ fn decimal(digits: &[u8]) -> Option<u32>
 fn values(line: &[u8]) -> Option<Row>
     ensures { result ≡ option_map capped_row (two_values (halves line.now)) }
 {
-    let space = find_space(line)?;
+    let space = find(line, b' ')?;
     let slot = decimal(&line[..space])?;
     let cost = decimal(&line[space + 1..])?;
     Some(Row { slot, cost })
@@ -68,21 +56,14 @@ fn values(line: &[u8]) -> Option<Row>
 fn is_listed(rows: &[Row], slot: u32) -> bool
     ensures { result ≡ listed slot rows.now }
 {
-    for row in rows {
-        if row.slot == slot {
-            return true;
-        }
-    }
-    false
+    rows.iter().any(|row| row.slot == slot)
 }
 
 // The row of a line, given the rows before it.
 fn read_row(rows: &[Row], line: &[u8]) -> Result<Row, Reason>
     ensures { result ≡ row_of rows.now line.now }
 {
-    let Some(row) = values(line) else {
-        return Err(Reason::Values);
-    };
+    let row = values(line).ok_or(Reason::Values)?;
     if row.slot >= SLOTS {
         return Err(Reason::Slot);
     }
@@ -101,18 +82,16 @@ fn read_lines(rows: &mut Vec<Row>, text: &[u8]) -> Result<(), LineFault>
     requires room { length text.now / 4 < vec_capacity rows.old }
     ensures { MatchResult result (λ _. rows_from [] [] text.now ≡ Ok rows.new.items) (λ f. rows_from [] [] text.now ≡ Err f) }
 {
-    let mut start = 0;
-    for (i, byte) in text.iter().enumerate() {
-        if *byte == b'\n' {
-            let line = rows.len() + 2;
-            match read_row(rows.as_slice(), &text[start..i]) {
-                Ok(row) => rows.push_reserved(row),
-                Err(reason) => return Err(LineFault { line, reason }),
-            }
-            start = i + 1;
+    let mut rest = text;
+    while let Some(end) = find(rest, b'\n') {
+        let line = rows.len() + 2;
+        match read_row(rows.as_slice(), &rest[..end]) {
+            Ok(row) => rows.push_reserved(row),
+            Err(reason) => return Err(LineFault { line, reason }),
         }
+        rest = &rest[end + 1..];
     }
-    if start < text.len() {
+    if !rest.is_empty() {
         return Err(LineFault {
             line: rows.len() + 2,
             reason: Reason::Unended,

@@ -1,4 +1,5 @@
 -- Which bytes are a part name, and when two names are the same.
+use Rattle.std.specs.List.{list_all}
 use Rattle.std.specs.Prelude.{ℕ, Bool, true, false, cond, ◌&&◌, ◌||◌, List, [], ◌∷◌, length, Some, None, Option, ◌==◌, nat_le, nat_lt}
 
 -- A to Z, 0 to 9 or a hyphen
@@ -6,8 +7,7 @@ abbrev pub plain : ℕ → Bool
 plain b = (nat_le 65 b && nat_le b 90) || ((nat_le 48 b && nat_le b 57) || b == 45)
 
 abbrev pub all_plain : List ℕ → Bool
-all_plain [] = true
-all_plain (b ∷ bs) = plain b && all_plain bs
+all_plain bs = list_all plain bs
 
 -- a name: 1 to 16 bytes, each plain
 abbrev pub is_name : List ℕ → Bool

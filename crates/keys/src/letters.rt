@@ -1,7 +1,7 @@
-// The bytes of part names: which may stand in one, when two rows of them are the same, and their home.
-ghost use Rattle.std.specs.Prelude.{◌≡◌, ◌≤◌, length, take};
+// The bytes of part names: which may stand in one, and their home.
+ghost use Rattle.std.specs.Prelude.{◌≡◌};
 ghost use Rattle.keys.specs.Homes.{stirred_all};
-ghost use Rattle.keys.specs.Names.{plain, all_plain, same_bytes};
+ghost use Rattle.keys.specs.Names.{plain, all_plain};
 
 use crate::homes::stir;
 
@@ -16,46 +16,12 @@ fn is_plain(b: u8) -> bool
 pub(crate) fn are_plain(text: &[u8]) -> bool
     ensures { result ≡ all_plain text.now }
 {
-    for b in text {
-        if !is_plain(*b) {
-            return false;
-        }
-    }
-    true
-}
-
-// Whether two rows have the same bytes.
-pub(crate) fn are_same(a: &[u8], b: &[u8]) -> bool
-    ensures { result ≡ same_bytes a.now b.now }
-{
-    if a.len() != b.len() {
-        return false;
-    }
-    for i in 0..a.len() {
-        if a[i] != b[i] {
-            return false;
-        }
-    }
-    true
+    text.iter().all(|b| is_plain(*b))
 }
 
 // The bytes mixed into one number, first to last.
 pub(crate) fn home_of_bytes(text: &[u8]) -> u32
     ensures { result ≡ stirred_all 0 text.now }
 {
-    let mut home = 0;
-    for b in text {
-        home = stir(home, *b as u32);
-    }
-    home
-}
-
-// Copies the text to the front of `to`.
-pub(crate) fn copy_in(to: &mut [u8], text: &[u8])
-    requires { length text.now ≤ length to.old }
-    ensures { take (length text.now) to.new ≡ text.now }
-{
-    for i in 0..text.len() {
-        to[i] = text[i];
-    }
+    text.iter().fold(0, |home, b| stir(home, *b as u32))
 }

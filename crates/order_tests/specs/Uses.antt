@@ -10,5 +10,5 @@ abbrev pub gone : ℕ → ℕ → Option Expelled
 gone slot credit = Some (record { slot = slot; credit = credit })
 
 -- A wheel over a pile: 256 times the pile's span.
-abbrev pub FreshStack : Wheel (Wheel BottomWheel) → Type 0
-FreshStack s = Fresh (Wheel (Wheel BottomWheel)) (wheels (Wheel BottomWheel) (wheels BottomWheel bottoms)) 1024 16711680 s
+abbrev pub FreshStack : Wheel (Wheel BottomWheel bottoms) (wheels BottomWheel bottoms) → Type 0
+FreshStack s = Fresh (Wheel (Wheel BottomWheel bottoms) (wheels BottomWheel bottoms)) (wheels (Wheel BottomWheel bottoms) (wheels BottomWheel bottoms)) 1024 16711680 s

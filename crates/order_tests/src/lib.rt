@@ -19,6 +19,7 @@ pub fn new_stack() -> Stack
     Wheel::new(new_pile())
 }
 
+// The two below share two calls, and differ in the type, the credit and the fact: one function for both would be longer.
 /// A pile takes slot 7 with its greatest credit, and gives it back with that credit.
 pub fn greatest_of_pile() -> Option<Expelled>
     ensures { result ≡ gone 7 65280 }

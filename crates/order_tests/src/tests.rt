@@ -2,10 +2,7 @@ use crate::new_stack;
 use orders::{BottomWheel, Entry, FlatOrder, Order, Wheel, new_pile};
 
 /// Places each entry in turn; whether all were taken.
-fn takes_all<O: Order>(order: &mut O, entries: &[(u32, u32)]) -> bool
-    requires { O.Order.valid order.old }
-    ensures { O.Order.valid order.new }
-{
+fn takes_all<O: Order>(order: &mut O, entries: &[(u32, u32)]) -> bool {
     let mut all = true;
     for (slot, credit) in entries {
         if !order.place(*slot, *credit) {
@@ -16,10 +13,7 @@ fn takes_all<O: Order>(order: &mut O, entries: &[(u32, u32)]) -> bool
 }
 
 /// Expels as often as entries are given; whether they left so, slot and credit.
-fn leave_as<O: Order>(order: &mut O, entries: &[(u32, u32)]) -> bool
-    requires { O.Order.valid order.old }
-    ensures { O.Order.valid order.new }
-{
+fn leave_as<O: Order>(order: &mut O, entries: &[(u32, u32)]) -> bool {
     let mut all = true;
     for (slot, credit) in entries {
         match order.expel() {

@@ -1,11 +1,13 @@
 -- Bits of a number in base 2, and the first that is set.
-use Rattle.std.proofs.Common.{◌≡◌, ℕ, zero, suc, ◌+◌, ◌-◌, ◌*◌, ◌/◌, ◌%◌, ◌^◌, ◌<◌, ◌≤◌, max, true, false, not, ◌&&◌, ◌||◌, eqb, ◌⊎◌, List, length, get_or, set, sym, ap, ◌∙◌, subst, inl, inr, ⊎_elim, pow-suc, arith, pow_mono}
+use Rattle.std.proofs.Common.{◌≡◌, ℕ, zero, suc, ◌+◌, ◌-◌, ◌*◌, ◌/◌, ◌%◌, ◌^◌, ◌<◌, ◌≤◌, max, true, false, not, ◌&&◌, ◌||◌, eqb, ◌⊎◌, List, length, get_or, set, drop, length-drop, sym, ap, ◌∙◌, subst, inl, inr, ⊎_elim, pow-suc, arith, pow_mono}
 use lib.Bits.{bit_or, bit_xor, or_step, or_shr, xor_shr, xor_add_and}
 use lib.Count.{count_trailing_zeros, under}
 use Rattle.std.proofs.lemmas.Nat.{shl-shr, shr-shr, pow-add, pow_pos, shr_le, pow_below, div_below}
 use Rattle.std.proofs.lemmas.Bool.Decides.{nat_tests}
 use Rattle.std.proofs.lemmas.Bool.{cases_eq, cases_lt, cases_order, eqb-true, eq-eqb, ne_eqb}
-use Rattle.std.proofs.lemmas.List.{get_or-set_same, get_or-set_other}
+use Rattle.std.specs.List.{enumerate_from, AllWithin, HoldsAt}
+use Rattle.std.proofs.lemmas.List.{get_or-set_same, get_or-set_other, get_or-drop}
+use Rattle.std.proofs.lemmas.List.FromFn.{length-enumerate_from, get_or-enumerate_from}
 use Rattle.orders.specs.Bits.{digit, marked}
 
 pub digit_or : (a b j : ℕ) → digit (bit_or a b) j ≡ max (digit a j) (digit b j)
@@ -179,11 +181,6 @@ module _ (ws : List ℕ) where
         )
 
   module _ (p i : ℕ) (p-in : p < i * 64) (i-in : i < 4) (fits : get_or ws i 0 < 2 ^ 64) (low : (k : ℕ) → p ≤ k → k < i * 64 → marked ws k ≡ false) where
-    pub word_none : get_or ws i 0 ≡ 0 → (k : ℕ) → p ≤ k → k < (i + 1) * 64 → marked ws k ≡ false
-    word_none z k h l = ⊎_elim (λ m. low k h m)
-        (λ m. unmarked_at i (k - i * 64) k (omega arith) (omega arith) (ap (λ (x : ℕ). digit x (k - i * 64)) z ∙ digit_of_zero (k - i * 64)))
-        (cases_lt k (i * 64))
-
     pub word_first : (get_or ws i 0 ≡ 0 → ⊥) →
         let t = count_trailing_zeros 64 (get_or ws i 0) in
         (p ≤ i * 64 + t) × (i * 64 + t < 256) × (marked ws (i * 64 + t) ≡ true) × ((k : ℕ) → p ≤ k → k < i * 64 + t → marked ws k ≡ false)
@@ -199,3 +196,47 @@ module _ (ws : List ℕ) where
               (λ m. unmarked_at i (k - i * 64) k (omega arith) (omega arith) (zeros_low 64 w (k - i * 64) (omega arith)))
               (cases_lt k (i * 64)),
         )
+
+-- ---- the words after that of p, each with its place
+
+abbrev pub later_words : List ℕ → ℕ → List (ℕ × ℕ)
+later_words ws p = drop (p / 64 + 1) (enumerate_from 0 ws)
+
+module _ (ws : List ℕ) (p : ℕ) (long : length ws ≡ 4) (p-in : p < 256) (part : (k : ℕ) → p ≤ k → k < (p / 64 + 1) * 64 → marked ws k ≡ false) where
+  later_at : (j : ℕ) → p / 64 + 1 + j < 4 → (d : ℕ × ℕ) → get_or (later_words ws p) j d ≡ (p / 64 + 1 + j, get_or ws (p / 64 + 1 + j) d.1)
+  later_at j h d =
+      let e : 0 + (p / 64 + 1 + j) ≡ p / 64 + 1 + j = omega arith in
+      get_or-drop (p / 64 + 1) (enumerate_from 0 ws) j d ∙ get_or-enumerate_from 0 ws (p / 64 + 1 + j) d (omega arith)
+      ∙ ap (λ (n : ℕ). (n, get_or ws (p / 64 + 1 + j) d.1)) e
+
+  later_long : length (later_words ws p) ≡ 3 - p / 64
+  later_long = let a = length-drop (p / 64 + 1) (enumerate_from 0 ws) in let b = length-enumerate_from 0 ws in omega arith
+
+  low : (i : ℕ) → AllWithin (λ (y : ℕ × ℕ). y.1 ≡ 0) (later_words ws p) 0 i → (k : ℕ) → p ≤ k → k < (p / 64 + 1 + i) * 64 → k < 256 → marked ws k ≡ false
+  low i zeros k h l m = ⊎_elim (part k h)
+      (λ n.
+      let j : ℕ = k / 64 - (p / 64 + 1) in
+      let e : p / 64 + 1 + j ≡ k / 64 = omega arith in
+      let z : get_or ws (k / 64) 0 ≡ 0 = ap (λ (x : ℕ). get_or ws x 0) (sym e) ∙ ap (λ (y : ℕ × ℕ). y.1) (sym (later_at j (omega arith) (0, 0))) ∙ zeros j (0, 0) (omega arith) (omega arith) in
+      unmarked_at ws (k / 64) (k % 64) k (omega arith) (omega arith) (ap (λ (x : ℕ). digit x (k % 64)) z ∙ digit_of_zero (k % 64)))
+      (cases_lt k ((p / 64 + 1) * 64))
+
+  pub later_none : AllWithin (λ (y : ℕ × ℕ). y.1 ≡ 0) (later_words ws p) 0 (length (later_words ws p)) → (k : ℕ) → p ≤ k → k < 256 → marked ws k ≡ false
+  later_none zeros k h l = let n = later_long in low (length (later_words ws p)) zeros k h (omega arith) l
+
+  pub later_first : (word whole i : ℕ) → (whole ≡ 0 → ⊥) → i < length (later_words ws p) → HoldsAt (λ (y : ℕ × ℕ). y ≡ (word, whole)) (later_words ws p) i →
+      AllWithin (λ (y : ℕ × ℕ). y.1 ≡ 0) (later_words ws p) 0 i → ((j : ℕ) → get_or ws j 0 < 2 ^ 64) →
+      let t = count_trailing_zeros 64 whole in
+      (p ≤ word * 64 + t) × (word * 64 + t < 256) × (marked ws (word * 64 + t) ≡ true) × ((k : ℕ) → p ≤ k → k < word * 64 + t → marked ws k ≡ false)
+  later_first word whole i some i-in here zeros fits =
+      let n = later_long in
+      let is : ◌≡◌ {A = ℕ × ℕ} (p / 64 + 1 + i, get_or ws (p / 64 + 1 + i) 0) (word, whole) = sym (later_at i (omega arith) (0, 0)) ∙ here (0, 0) in
+      let at_word : p / 64 + 1 + i ≡ word = ap (λ (y : ℕ × ℕ). y.0) is in
+      let there : get_or ws word 0 ≡ whole = ap (λ (x : ℕ). get_or ws x 0) (sym at_word) ∙ ap (λ (y : ℕ × ℕ). y.1) is in
+      let past : p < word * 64 = omega arith in
+      let within : word < 4 = omega arith in
+      let before : (k : ℕ) → p ≤ k → k < word * 64 → marked ws k ≡ false = λ k h l. low i zeros k h (omega arith) (omega arith) in
+      subst (λ (x : ℕ).
+      let t = count_trailing_zeros 64 x in
+      (p ≤ word * 64 + t) × (word * 64 + t < 256) × (marked ws (word * 64 + t) ≡ true) × ((k : ℕ) → p ≤ k → k < word * 64 + t → marked ws k ≡ false)) there
+      (word_first ws p word past within (fits word) before (λ z. some (sym there ∙ z)))

@@ -1,13 +1,103 @@
 -- The tables of the 256 queues: rings that a slot joins and leaves, and their marks.
-use Rattle.std.proofs.Common.{◌≡◌, ℕ, ◌+◌, ◌-◌, ◌<◌, ◌≤◌, Bool, true, false, cond, not, ◌&&◌, ◌||◌, eqb, List, [], ◌∷◌, ◌++◌, length, drop, set, sym, refl, ap, ◌∙◌, subst, ⊎_elim, arith}
+use Rattle.std.proofs.Common.{◌≡◌, ℕ, ◌+◌, ◌-◌, ◌<◌, ◌≤◌, Bool, true, false, cond, not, ◌&&◌, ◌||◌, eqb, List, [], ◌∷◌, ◌++◌, length, drop, get_or, set, Some, None, Option, sym, refl, ap, ◌∙◌, subst, ap₂, ⊎_elim, arith}
 use Rattle.std.specs.List.{AllByRecursion}
-use Rattle.std.proofs.lemmas.List.{length-set, get_or-set_same, get_or-set_other}
+use Rattle.std.proofs.Math.ListN.{get_or-map}
+use Rattle.std.proofs.Math.Seq.{map-set_same}
+use Rattle.std.proofs.lemmas.List.{length-set, get_or-set_same, get_or-set_other, map-set}
+use Rattle.orders.specs.declared.queues.Node.{Node}
 use Rattle.std.proofs.ByRecursion.{All-push}
 use Rattle.std.proofs.lemmas.Bool.Decides.{nat_tests}
 use Rattle.std.proofs.lemmas.Bool.{cases_eq, eq-eqb, ne_eqb, cond-true, cond-false, eqb-false, eqb-true, not-true, not-false}
-use Rattle.orders.specs.Rings.{Path, queue, at, sans, holds, Once, Rings}
+use Rattle.orders.specs.Rings.{Path, queue, at, named, names, number, sans, holds, Once, Rings, nexts, prevs}
 use Rattle.orders.specs.Paths.{push_here, push_other, here, here_other, out}
 use Rattle.orders.specs.Slots.{holds_push, holds_sans, once_push, once_sans, all_sans, once_short, walk_path}
+
+-- a write of a queue that there is, or of none
+pub named_in : (table : List (Option ℕ)) (x : ℕ) (o : Option ℕ) → length table ≡ 1024 → ((y : ℕ) → y < 1024 → number (named table y) < 256) → number o < 256 →
+    (y : ℕ) → y < 1024 → number (named (set table x o) y) < 256
+named_in table x o long all fits y h = ⊎_elim
+    (λ e. let z = ap number (ap (named (set table x o)) e ∙ get_or-set_same table x o None (omega arith)) in omega arith)
+    (λ e. let z = ap number (get_or-set_other table x y o None e) in let l = all y h in omega arith)
+    (cases_eq y x)
+
+-- ---- a node, and its two columns
+
+abbrev pub node_at : List Node → ℕ → Node
+node_at nodes i = get_or nodes i (record { next = 0; prev = 0 })
+
+pub next_at : (nodes : List Node) (i : ℕ) → at (nexts nodes) i ≡ (node_at nodes i).next
+next_at nodes i = get_or-map (λ (n : Node). n.next) nodes i (record { next = 0; prev = 0 })
+
+pub prev_at : (nodes : List Node) (i : ℕ) → at (prevs nodes) i ≡ (node_at nodes i).prev
+prev_at nodes i = get_or-map (λ (n : Node). n.prev) nodes i (record { next = 0; prev = 0 })
+
+module _ (nodes : List Node) (i y : ℕ) where
+  abbrev pub with_next : List Node
+  with_next = set nodes i (record { next = y; prev = (node_at nodes i).prev })
+
+  abbrev pub with_prev : List Node
+  with_prev = set nodes i (record { next = (node_at nodes i).next; prev = y })
+
+  nexts_next : nexts with_next ≡ set (nexts nodes) i y
+  nexts_next = map-set (λ (n : Node). n.next) nodes i (record { next = y; prev = (node_at nodes i).prev })
+
+  prevs_next : prevs with_next ≡ prevs nodes
+  prevs_next = map-set_same (λ (n : Node). n.prev) nodes i (record { next = y; prev = (node_at nodes i).prev }) (record { next = 0; prev = 0 }) refl
+
+  nexts_prev : nexts with_prev ≡ nexts nodes
+  nexts_prev = map-set_same (λ (n : Node). n.next) nodes i (record { next = (node_at nodes i).next; prev = y }) (record { next = 0; prev = 0 }) refl
+
+  prevs_prev : prevs with_prev ≡ set (prevs nodes) i y
+  prevs_prev = map-set (λ (n : Node). n.prev) nodes i (record { next = (node_at nodes i).next; prev = y })
+
+module _ (nodes : List Node) (i a b : ℕ) where
+  nexts_node : nexts (set nodes i (record { next = a; prev = b })) ≡ set (nexts nodes) i a
+  nexts_node = map-set (λ (n : Node). n.next) nodes i (record { next = a; prev = b })
+
+  prevs_node : prevs (set nodes i (record { next = a; prev = b })) ≡ set (prevs nodes) i b
+  prevs_node = map-set (λ (n : Node). n.prev) nodes i (record { next = a; prev = b })
+
+-- slot x comes in before anchor s
+module _ (nodes : List Node) (s x : ℕ) where
+  abbrev last : ℕ
+  last = (node_at nodes s).prev
+
+  abbrev pub nodes_pushed : List Node
+  nodes_pushed = with_prev (set (with_next nodes last x) x (record { next = s; prev = last })) s x
+
+  pub nexts_pushed : nexts nodes_pushed ≡ set (set (nexts nodes) (at (prevs nodes) s) x) x s
+  nexts_pushed = nexts_prev (set (with_next nodes last x) x (record { next = s; prev = last })) s x ∙ nexts_node (with_next nodes last x) x s last
+      ∙ ap (λ (t : List ℕ). set t x s) (nexts_next nodes last x ∙ ap (λ (z : ℕ). set (nexts nodes) z x) (sym (prev_at nodes s)))
+
+  pub prevs_pushed : prevs nodes_pushed ≡ set (set (prevs nodes) x (at (prevs nodes) s)) s x
+  prevs_pushed = prevs_prev (set (with_next nodes last x) x (record { next = s; prev = last })) s x
+      ∙ ap (λ (t : List ℕ). set t s x) (prevs_node (with_next nodes last x) x s last ∙ ap₂ (λ (t : List ℕ) (z : ℕ). set t x z) (prevs_next nodes last x) (sym (prev_at nodes s)))
+
+-- slot x goes out
+module _ (nodes : List Node) (x : ℕ) where
+  abbrev before : ℕ
+  before = (node_at nodes x).prev
+
+  abbrev after : ℕ
+  after = (node_at nodes x).next
+
+  abbrev pub nodes_removed : List Node
+  nodes_removed = set (with_prev (with_next nodes before after) after before) x (record { next = x; prev = x })
+
+  pub nexts_removed : nexts nodes_removed ≡ set (set (nexts nodes) (at (prevs nodes) x) (at (nexts nodes) x)) x x
+  nexts_removed = nexts_node (with_prev (with_next nodes before after) after before) x x x
+      ∙ ap (λ (t : List ℕ). set t x x) (nexts_prev (with_next nodes before after) after before ∙ nexts_next nodes before after
+      ∙ ap₂ (λ (a b : ℕ). set (nexts nodes) a b) (sym (prev_at nodes x)) (sym (next_at nodes x)))
+
+  pub prevs_removed : prevs nodes_removed ≡ set (set (prevs nodes) (at (nexts nodes) x) (at (prevs nodes) x)) x x
+  prevs_removed = prevs_node (with_prev (with_next nodes before after) after before) x x x
+      ∙ ap (λ (t : List ℕ). set t x x) (prevs_prev (with_next nodes before after) after before
+      ∙ ap (λ (t : List ℕ). set t after before) (prevs_next nodes before after)
+      ∙ ap₂ (λ (a b : ℕ). set (prevs nodes) a b) (sym (next_at nodes x)) (sym (prev_at nodes x)))
+
+-- rings through columns that are the same
+pub rings_columns : {a a' b b' : List ℕ} {home : List (Option ℕ)} → a' ≡ a → b' ≡ b → Rings a b home (queue a) → Rings a' b' home (queue a')
+rings_columns {a} {a'} {b} {b'} {home} p q r = subst (λ (t : List ℕ). Rings t b' home (queue t)) (sym p) (subst (λ (t : List ℕ). Rings a t home (queue a)) (sym q) r)
 
 -- two writes
 module _ (t : List ℕ) (i a j b : ℕ) (i-in : i < length t) (j-in : j < length t) where
@@ -29,7 +119,7 @@ by_apart P a b i pa pb po =
     ⊎_elim (λ e. subst P (sym e) pb)
     (λ m. ⊎_elim (λ e. subst P (sym e) (pa (λ k. m (e ∙ k)))) (λ n. po n m) (cases_eq i a)) (cases_eq i b)
 
-module _ {next prev home : List ℕ} {qs : ℕ → List ℕ} (r : Rings next prev home qs) where
+module _ {next prev : List ℕ} {home : List (Option ℕ)} {qs : ℕ → List ℕ} (r : Rings next prev home qs) where
   -- the queues are what the walks give
   pub queue_is : (q : ℕ) → q < 256 → queue next q ≡ qs q
   unfolding queue
@@ -45,6 +135,7 @@ module _ {next prev home : List ℕ} {qs : ℕ → List ℕ} (r : Rings next pre
     prev_in = r.prev_in;
     back = r.back;
     forth = r.forth;
+    home_in = r.home_in;
     idle = r.idle;
     ring = λ q h. subst (λ (xs : List ℕ). Path (at next) (1024 + q) xs (1024 + q)) (sym (queue_is q h)) (r.ring q h);
     slots = λ q h. subst (AllByRecursion (λ x. x < 1024)) (sym (queue_is q h)) (r.slots q h);
@@ -52,7 +143,7 @@ module _ {next prev home : List ℕ} {qs : ℕ → List ℕ} (r : Rings next pre
     member = λ q x h k. ap (holds x) (queue_is q h) ∙ r.member q x h k;
   }
 
-  module _ (q x : ℕ) (q-in : q < 256) (x-in : x < 1024) (out-yet : 256 ≤ at home x) where
+  module _ (q x : ℕ) (q-in : q < 256) (x-in : x < 1024) (out-yet : named home x ≡ None) where
     s : ℕ
     s = 1024 + q
 
@@ -70,7 +161,7 @@ module _ {next prev home : List ℕ} {qs : ℕ → List ℕ} (r : Rings next pre
     unfolding pushed
     pushed_else k e = cond-false (eqb k q) (qs k ++ x ∷ []) (qs k) (ne_eqb k q e)
 
-    pub rings_push : Rings (set (set next (at prev (1024 + q)) x) x (1024 + q)) (set (set prev x (at prev (1024 + q))) (1024 + q) x) (set home x q) pushed
+    pub rings_push : Rings (set (set next (at prev (1024 + q)) x) x (1024 + q)) (set (set prev x (at prev (1024 + q))) (1024 + q) x) (set home x (Some q)) pushed
     unfolding s l
     rings_push =
         let nl = r.next_long in
@@ -101,9 +192,10 @@ module _ {next prev home : List ℕ} {qs : ℕ → List ℕ} (r : Rings next pre
           forth = λ i h. by_two (λ k. at next' (at prev' k) ≡ k) x s i (ap (at next') p-x ∙ n-l) (ap (at next') p-s ∙ n-x)
               (λ a b. let f = r.forth i h in
               ap (at next') (p-o i a b) ∙ n-o (at prev i) (λ e. let z : i ≡ s = cc in b z) (λ e. let z : i ≡ x = cc in a z) ∙ f);
+          home_in = named_in home x (Some q) r.home_long r.home_in q-in;
           idle = λ y h e.
-              let y≢x : y ≡ x → ⊥ = λ k. let z : at (set home x q) y ≡ q = ap (at (set home x q)) k ∙ get_or-set_same home x q 0 (omega arith) in omega arith in
-              let i : at next y ≡ y = r.idle y h (subst (λ (z : ℕ). 256 ≤ z) (get_or-set_other home x y q 0 y≢x) e) in
+              let y≢x : y ≡ x → ⊥ = λ k. let f = ap (named (set home x (Some q))) k ∙ get_or-set_same home x (Some q) None (omega arith) in let z : ◌≡◌ {A = ℕ} 0 1 = cc in omega arith in
+              let i : at next y ≡ y = r.idle y h (sym (get_or-set_other home x y (Some q) None y≢x) ∙ e) in
               n-o y (λ k. let z : s ≡ y = cc in omega arith) y≢x ∙ i;
           ring = λ k h. ⊎_elim
               (λ e. subst (λ (xs : List ℕ). Path (at next') (1024 + k) xs (1024 + k)) (sym (pushed_here k e))
@@ -118,24 +210,29 @@ module _ {next prev home : List ℕ} {qs : ℕ → List ℕ} (r : Rings next pre
               (λ e. subst (AllByRecursion (λ y. y < 1024)) (sym (pushed_else k e)) (r.slots k h))
               (cases_eq k q);
           once = λ k h. ⊎_elim
-              (λ e. subst Once (sym (pushed_here k e)) (once_push (qs k) x (r.once k h) (r.member k x h x-in ∙ ne_eqb (at home x) k (omega arith))))
+              (λ e. subst Once (sym (pushed_here k e)) (once_push (qs k) x (r.once k h) (r.member k x h x-in ∙ ap (λ (o : Option ℕ). names o k) out-yet)))
               (λ e. subst Once (sym (pushed_else k e)) (r.once k h))
               (cases_eq k q);
           member = λ k y h yh.
               let m = r.member k y h yh in
-              let hs = get_or-set_same home x q 0 (omega arith) in
+              let hs = get_or-set_same home x (Some q) None (omega arith) in
               let b : holds y (pushed k) ≡ cond (eqb k q) (holds y (qs k) || eqb x y) (holds y (qs k)) = ⊎_elim
               (λ e. ap (holds y) (pushed_here k e) ∙ holds_push y (qs k) x ∙ sym (cond-true (eqb k q) (holds y (qs k) || eqb x y) (holds y (qs k)) (eq-eqb k q e)))
               (λ e. ap (holds y) (pushed_else k e) ∙ sym (cond-false (eqb k q) (holds y (qs k) || eqb x y) (holds y (qs k)) (ne_eqb k q e)))
               (cases_eq k q) in
               ⊎_elim
-              (λ e. let ho : at (set home x q) y ≡ q = ap (at (set home x q)) e ∙ hs in let hy : at home y ≡ at home x = ap (at home) e in grind (arith, nat_tests))
-              (λ e. let ho = get_or-set_other home x y q 0 e in grind (arith, nat_tests))
+              (λ e.
+              let was : holds y (qs k) ≡ false = m ∙ ap (λ (o : Option ℕ). names o k) (ap (named home) e ∙ out-yet) in
+              let now : holds y (pushed k) ≡ eqb q k = grind (arith, nat_tests) in
+              now ∙ sym (ap (λ (o : Option ℕ). names o k) (ap (named (set home x (Some q))) e ∙ hs)))
+              (λ e.
+              let now : holds y (pushed k) ≡ holds y (qs k) = grind (arith, nat_tests) in
+              now ∙ m ∙ sym (ap (λ (o : Option ℕ). names o k) (get_or-set_other home x y (Some q) None e)))
               (cases_eq y x);
         }
 
   module _ (x : ℕ) (x-in : x < 1024) where
-    pub rings_remove : Rings (set (set next (at prev x) (at next x)) x x) (set (set prev (at next x) (at prev x)) x x) (set home x 256) (λ k. sans x (qs k))
+    pub rings_remove : Rings (set (set next (at prev x) (at next x)) x x) (set (set prev (at next x) (at prev x)) x x) (set home x None) (λ k. sans x (qs k))
     rings_remove =
         let nl = r.next_long in
         let pl = r.prev_long in
@@ -168,10 +265,11 @@ module _ {next prev home : List ℕ} {qs : ℕ → List ℕ} (r : Rings next pre
               (λ d. ap (at next') (p-n d) ∙ n-p (λ e. let z : n ≡ x = cc in d z)) (ap (at next') p-x ∙ n-x)
               (λ a b. let f = r.forth i h in
               ap (at next') (p-o i a b) ∙ n-o (at prev i) (λ e. let z : i ≡ x = cc in b z) (λ e. let z : i ≡ n = cc in a z) ∙ f);
+          home_in = named_in home x None r.home_long r.home_in (omega arith);
           idle = λ y h e. ⊎_elim
               (λ k. ap (at next') k ∙ n-x ∙ sym k)
               (λ k.
-              let i : at next y ≡ y = r.idle y h (subst (λ (z : ℕ). 256 ≤ z) (get_or-set_other home x y 256 0 k) e) in
+              let i : at next y ≡ y = r.idle y h (sym (get_or-set_other home x y None None k) ∙ e) in
               n-o y (λ z. let w : y ≡ x = cc in k w) k ∙ i)
               (cases_eq y x);
           ring = λ k h.
@@ -184,10 +282,10 @@ module _ {next prev home : List ℕ} {qs : ℕ → List ℕ} (r : Rings next pre
           member = λ k y h yh.
               let m = r.member k y h yh in
               let b = holds_sans y x (qs k) in
-              let hs = get_or-set_same home x 256 0 (omega arith) in
+              let hs = get_or-set_same home x None None (omega arith) in
               ⊎_elim
-              (λ e. let ho : at (set home x 256) y ≡ 256 = ap (at (set home x 256)) e ∙ hs in grind (arith, nat_tests))
-              (λ e. let ho = get_or-set_other home x y 256 0 e in grind (arith, nat_tests))
+              (λ e. b ∙ cond-true (eqb y x) false (holds y (qs k)) (eq-eqb y x e) ∙ sym (ap (λ (o : Option ℕ). names o k) (ap (named (set home x None)) e ∙ hs)))
+              (λ e. b ∙ cond-false (eqb y x) false (holds y (qs k)) (ne_eqb y x e) ∙ m ∙ sym (ap (λ (o : Option ℕ). names o k) (get_or-set_other home x y None None e)))
               (cases_eq y x);
         }
 
@@ -203,7 +301,7 @@ path_head : (f : ℕ → ℕ) (a : ℕ) (xs : List ℕ) → Path f a xs a → (f
 path_head f a [] p n = absurd (n p)
 path_head f a (y ∷ ys) p n = ap (λ (z : ℕ). z ∷ ys) (sym p.0)
 
-module _ {next prev home : List ℕ} {qs : ℕ → List ℕ} (r : Rings next prev home qs) where
+module _ {next prev : List ℕ} {home : List (Option ℕ)} {qs : ℕ → List ℕ} (r : Rings next prev home qs) where
   pub unsigned_empty : (k : ℕ) → k < 256 → sign next k ≡ false → qs k ≡ []
   unsigned_empty k h s =
       let e = eqb-true (at next (1024 + k)) (1024 + k) (not-false (eqb (at next (1024 + k)) (1024 + k)) s) in
@@ -277,21 +375,22 @@ module _ {next prev home : List ℕ} {qs : ℕ → List ℕ} (r : Rings next pre
         (cases_eq a (at prev x))
 
 -- nothing in any queue
-pub rings_none : (next home : List ℕ) → length next ≡ 1280 → ((k : ℕ) → k < 1280 → at next k ≡ k) → length home ≡ 1024 → ((x : ℕ) → x < 1024 → at home x ≡ 256) →
-    Rings next next home (λ _. [])
-rings_none next home nl e hl hx = record {
+pub rings_none : (next prev : List ℕ) (home : List (Option ℕ)) → length next ≡ 1280 → length prev ≡ 1280 → ((k : ℕ) → k < 1280 → at next k ≡ k) → ((k : ℕ) → k < 1280 → at prev k ≡ k) →
+    length home ≡ 1024 → ((x : ℕ) → x < 1024 → named home x ≡ None) → Rings next prev home (λ _. [])
+rings_none next prev home nl pl n p hl hx = record {
   next_long = nl;
-  prev_long = nl;
+  prev_long = pl;
   home_long = hl;
-  next_in = λ i h. let z = e i h in omega arith;
-  prev_in = λ i h. let z = e i h in omega arith;
-  back = λ i h. ap (at next) (e i h) ∙ e i h;
-  forth = λ i h. ap (at next) (e i h) ∙ e i h;
-  idle = λ x h _. e x (omega arith);
-  ring = λ q h. e (1024 + q) (omega arith);
+  next_in = λ i h. let z = n i h in omega arith;
+  prev_in = λ i h. let z = p i h in omega arith;
+  back = λ i h. ap (at prev) (n i h) ∙ p i h;
+  forth = λ i h. ap (at next) (p i h) ∙ n i h;
+  home_in = λ x h. let z = ap number (hx x h) in omega arith;
+  idle = λ x h _. n x (omega arith);
+  ring = λ q h. n (1024 + q) (omega arith);
   slots = λ q h. tt;
   once = λ q h. tt;
-  member = λ q x h k. let z : at home x ≡ 256 = hx x k in sym (ne_eqb (at home x) q (omega arith));
+  member = λ q x h k. sym (ap (λ (o : Option ℕ). names o q) (hx x k));
 }
 
 pub sign_none : (next : List ℕ) → ((k : ℕ) → k < 1280 → at next k ≡ k) → (k : ℕ) → k < 256 → sign next k ≡ false

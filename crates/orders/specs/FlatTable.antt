@@ -1,17 +1,14 @@
--- The flat order: a table whose first `count` entries stand in the order of their placing.
-use Rattle.std.specs.Prelude.{◌≡◌, ℕ, ◌<◌, ◌≤◌, Bool, false, ◌&&◌, List, [], length, take, Some, None, Option, nat_le, nat_lt, slice_index_or}
+-- The flat order: a list of entries in the order of their placing.
+use Rattle.std.specs.Prelude.{◌≡◌, ℕ, ◌<◌, ◌≤◌, Bool, false, ◌&&◌, List, [], length, Some, None, Option, nat_le, nat_lt, slice_index_or}
 use Rattle.std.specs.List.{AllByRecursion}
 use Rattle.orders.specs.declared.Entry.{Entry}
-use Rattle.orders.specs.declared.Order.{Ghosts}
-use Rattle.orders.specs.declared.flat.FlatOrder.{FlatOrder}
 use Rattle.orders.specs.Meaning.{OrderMeaning, Apart, waits}
 use Rattle.orders.specs.Flat.{entry}
 use Rattle.orders.specs.Wheels.{merged}
-use Rattle.orders.specs.Fresh.{Fresh}
 
--- Each entry of the table joins those placed before it, behind all of its credit or less.
-abbrev pub flat_order : List Entry → ℕ → OrderMeaning
-flat_order table count = record { size = 1024; span = 65280; waiting = merged [] (take count table) }
+-- Each entry joins those placed before it, behind all of its credit or less.
+abbrev pub flat_order : List Entry → OrderMeaning
+flat_order entries = record { size = 1024; span = 65280; waiting = merged [] entries }
 
 -- Whether slot and credit are within their limits.
 abbrev pub permitted : ℕ → ℕ → Bool
@@ -22,12 +19,6 @@ pub record Neat (xs : List Entry) : Type 0 where
   pub apart : Apart xs
   pub slots : AllByRecursion (λ (y : Entry). y.slot < 1024) xs
   pub credits : AllByRecursion (λ (y : Entry). y.credit ≤ 65280) xs
-
--- What the calls of the flat order keep to.
-pub record Kept (table : List Entry) (count : ℕ) : Type 0 where
-  pub long : length table ≡ 1024
-  pub within : count ≤ 1024
-  pub neat : Neat (take count table)
 
 abbrev pub entry_at : List Entry → ℕ → Entry
 entry_at xs i = slice_index_or xs i (entry 0 0)
@@ -42,14 +33,3 @@ pub record FirstLeast (xs : List Entry) (i : ℕ) : Type 0 where
   pub inside : i < length xs
   pub before : (k : ℕ) → k < i → (entry_at xs i).credit < (entry_at xs k).credit
   pub least : (k : ℕ) → k < length xs → (entry_at xs i).credit ≤ (entry_at xs k).credit
-
--- The flat order as an order: it has no hands.
-abbrev pub flats : Ghosts FlatOrder
-flats = record {
-  meaning = λ o. flat_order o.table o.count;
-  valid = λ o. Kept o.table o.count;
-  rested = λ o. Unit {0};
-}
-
-abbrev pub FreshFlat : FlatOrder → Type 0
-FreshFlat o = Fresh FlatOrder flats 1024 65280 o

@@ -1,20 +1,17 @@
 -- What the calls of the flat order come to, over the entries in placing order.
-use Rattle.std.specs.Prelude.{◌≡◌, ℕ, zero, suc, ◌+◌, ◌-◌, ◌<◌, ◌≤◌, Bool, true, false, ◌&&◌, ◌||◌, List, [], ◌∷◌, ◌++◌, length, take, drop, Some, ◌==◌, ◌≢◌, nat_le, nat_lt, slice_range, slice_set, refl}
-use Rattle.std.proofs.Common.{sym, ap, ap₂, subst, ◌∙◌, append_assoc, arith, length-append, length-drop, length-set, length-take-le}
-use borrow.Rule.Slice.PartMut.{put_mid}
+use Rattle.std.specs.Prelude.{◌≡◌, ℕ, zero, suc, ◌+◌, ◌-◌, ◌<◌, ◌≤◌, Bool, true, false, ◌&&◌, ◌||◌, List, [], ◌∷◌, ◌++◌, length, take, drop, Some, ◌==◌, ◌≢◌, nat_le, nat_lt, slice_set, slice_index_or, refl}
+use Rattle.std.proofs.Common.{sym, ap, ap₂, subst, ◌∙◌, arith, length-append, length-drop, length-take-le}
 use Rattle.std.proofs.Math.Seq.{split_at}
-use Rattle.std.specs.List.{remove, AllByRecursion}
+use Rattle.std.specs.List.{remove, refill, list_any, AllByRecursion}
 use Rattle.std.proofs.ByRecursion.{All-weaker, All-push, All-append, All-get_or, All-from_get_or}
-use Rattle.std.proofs.lemmas.List.{take_more, take_more_set, take_all, take-take, take_at, drop_more, drop-drop, drop-set-lt, get_or-take, get_or-drop}
-use Rattle.std.proofs.lemmas.Slice.{between_is}
+use Rattle.std.proofs.lemmas.List.{take_more, take_more_set, take_at, drop_more, drop-set-lt, get_or-take, get_or-drop, get_or_default}
 use Rattle.std.proofs.lemmas.Bool.{eq-eqb, ne_eqb, or_parts, or_from, or_left, or_right, eqb-false, both_ways, and_parts, ltb-true, leb-true}
-use Rattle.std.proofs.lemmas.Bool.Decides.{nat_tests}
 use Rattle.orders.specs.declared.Entry.{Entry}
 use Rattle.orders.specs.Meaning.{Lawful, joined, waits, without, fallen, leaver, rest, some_due, Apart}
 use Rattle.orders.specs.Rings.{holds, Once}
 use Rattle.orders.specs.Flat.{entry}
 use Rattle.orders.specs.Wheels.{merged, Over}
-use Rattle.orders.specs.FlatTable.{flat_order, permitted, Neat, Kept, entry_at, FirstLeast}
+use Rattle.orders.specs.FlatTable.{flat_order, permitted, Neat, entry_at, Found, FirstLeast}
 use Rattle.orders.specs.Slots.{once_short}
 use Rattle.orders.specs.Flats.{joined_front, waits_append, fallen_append, without_absent}
 use Rattle.orders.specs.Merges.{join_all, join_apart, join_waits, without_all, without_apart, drop_same, drop_else, fallen_all, fallen_apart, merged_sorted, merged_waits, merged_due, merged_first, merged_without, merged_fallen}
@@ -41,12 +38,12 @@ merged_apart acc (e ∷ es) a b h =
 
 -- ---- the laws
 
-pub neat_lawful : (table : List Entry) (count : ℕ) → Neat (take count table) → Lawful (flat_order table count)
-neat_lawful table count n = record {
-  sorted = merged_sorted [] (take count table) tt;
-  apart = merged_apart [] (take count table) tt n.apart (λ s w. refl);
-  slots = merged_all (λ (y : Entry). y.slot < 1024) [] (take count table) tt n.slots;
-  credits = merged_all (λ (y : Entry). y.credit ≤ 65280) [] (take count table) tt n.credits;
+pub neat_lawful : (xs : List Entry) → Neat xs → Lawful (flat_order xs)
+neat_lawful xs n = record {
+  sorted = merged_sorted [] xs tt;
+  apart = merged_apart [] xs tt n.apart (λ s w. refl);
+  slots = merged_all (λ (y : Entry). y.slot < 1024) [] xs tt n.slots;
+  credits = merged_all (λ (y : Entry). y.credit ≤ 65280) [] xs tt n.credits;
 }
 
 -- ---- place
@@ -66,7 +63,7 @@ apart_push (x ∷ xs) e a w =
       apart_push xs e a.1 p.1,
     )
 
-neat_push : (xs : List Entry) (s c : ℕ) → Neat xs → s < 1024 → waits s xs ≡ false → c ≤ 65280 → Neat (xs ++ entry s c ∷ [])
+pub neat_push : (xs : List Entry) (s c : ℕ) → Neat xs → s < 1024 → waits s xs ≡ false → c ≤ 65280 → Neat (xs ++ entry s c ∷ [])
 neat_push xs s c n a w d = record {
   apart = apart_push xs (entry s c) n.apart w;
   slots = All-push (λ (y : Entry). y.slot < 1024) xs (entry s c) n.slots a;
@@ -113,46 +110,14 @@ room xs s n a w =
 
 -- ---- the loops
 
-pub waits_more : (s : ℕ) (xs : List Entry) (i : ℕ) → i < length xs → waits s (take i xs) ≡ false → ((entry_at xs i).slot ≢ s) → waits s (take (i + 1) xs) ≡ false
-waits_more s xs i h w n =
-    ap (waits s) (take_more xs i (entry 0 0) h) ∙ waits_append s (take i xs) (entry_at xs i ∷ [])
-    ∙ or_from (waits s (take i xs)) (waits s (entry_at xs i ∷ [])) w (or_from ((entry_at xs i).slot == s) false (ne_eqb (entry_at xs i).slot s n) refl)
+-- none of them is the slot
+pub waits_none : (s : ℕ) (xs : List Entry) → ((k : ℕ) → k < length xs → (entry_at xs k).slot ≢ s) → waits s xs ≡ false
+waits_none s [] h = refl
+waits_none s (x ∷ xs) h = or_from (x.slot == s) (waits s xs) (ne_eqb x.slot s (h 0 (omega arith))) (waits_none s xs (λ k l. h (suc k) (omega arith)))
 
-pub waits_all : (s : ℕ) (xs : List Entry) (i : ℕ) → length xs ≤ i → waits s (take i xs) ≡ false → waits s xs ≡ false
-waits_all s xs i h w = ap (waits s) (sym (take_all i xs h)) ∙ w
-
-due_append : (xs ys : List Entry) → some_due (xs ++ ys) ≡ (some_due xs || some_due ys)
-due_append [] ys = refl
-due_append (x ∷ xs) ys = let h = due_append xs ys in grind (arith, nat_tests)
-
-pub due_more : (xs : List Entry) (i : ℕ) → i < length xs → some_due (take i xs) ≡ false → ((entry_at xs i).credit ≢ 0) → some_due (take (i + 1) xs) ≡ false
-due_more xs i h w n =
-    ap some_due (take_more xs i (entry 0 0) h) ∙ due_append (take i xs) (entry_at xs i ∷ [])
-    ∙ or_from (some_due (take i xs)) (some_due (entry_at xs i ∷ [])) w (or_from ((entry_at xs i).credit == 0) false (ne_eqb (entry_at xs i).credit 0 n) refl)
-
-pub due_all : (xs : List Entry) (i : ℕ) → length xs ≤ i → some_due (take i xs) ≡ false → some_due xs ≡ false
-due_all xs i h w = ap some_due (sym (take_all i xs h)) ∙ w
-
-pub due_here : (xs : List Entry) (i : ℕ) → i < length xs → (entry_at xs i).credit ≡ 0 → some_due xs ≡ true
-due_here [] i h e = absurd (omega arith)
-due_here (x ∷ xs) zero h e = or_left (x.credit == 0) (some_due xs) (eq-eqb x.credit 0 e)
-due_here (x ∷ xs) (suc i) h e = or_right (x.credit == 0) (some_due xs) (due_here xs i (omega arith) e)
-
-pub gap_closed : (xs ys : List Entry) (n i : ℕ) → i < n → n ≤ length xs → ys ≡ drop 1 (slice_range xs i n) ++ take 1 (slice_range xs i n) →
-    take (n - 1) (put_mid i (n - i) xs ys) ≡ remove (take n xs) i
-gap_closed xs ys n i h k e =
-    let mid : List Entry = take (n - i) (drop i xs) in
-    let post : List Entry = drop (n - i) (drop i xs) in
-    let kept : List Entry = take i xs ++ drop 1 mid in
-    let long : length mid ≡ n - i = length-take-le (n - i) (drop i xs) (let d = length-drop i xs in omega arith) in
-    let short : length kept ≡ n - 1 =
-    (let a = length-append (take i xs) (drop 1 mid) in let b = length-take-le i xs (omega arith) in let d = length-drop 1 mid in omega arith) in
-    let apart : take i xs ++ (ys ++ post) ≡ kept ++ (take 1 mid ++ post) =
-    ap (λ (zs : List Entry). take i xs ++ (zs ++ post)) e ∙ simp append_assoc in
-    let front : take i (take n xs) ≡ take i xs = take-take i n xs (omega arith) in
-    let back : drop 1 mid ≡ drop (suc i) (take n xs) =
-    ap (drop 1) (between_is xs i n) ∙ drop-drop 1 i (take n xs) ∙ ap (λ (z : ℕ). drop z (take n xs)) (let z : i + 1 ≡ suc i = omega arith in z) in
-    ap (take (n - 1)) apart ∙ take_at kept (take 1 mid ++ post) (n - 1) short ∙ ap₂ (λ (us vs : List Entry). us ++ vs) (sym front) back
+pub due_any : (xs : List Entry) → list_any (λ (y : Entry). y.credit == 0) xs ≡ some_due xs
+due_any [] = refl
+due_any (x ∷ xs) = ap (λ (b : Bool). (x.credit == 0) || b) (due_any xs)
 
 module _ (by i : ℕ) (xs ys : List Entry) (hx : i < length xs) (hy : i < length ys) (back : drop i ys ≡ drop i xs) where
   same_at : entry_at ys i ≡ entry_at xs i
@@ -236,6 +201,10 @@ neat_without xs s n = record {
   credits = without_all (λ (y : Entry). y.credit ≤ 65280) s xs n.credits;
 }
 
+fallen_length : (d : ℕ) (xs : List Entry) → length (fallen d xs) ≡ length xs
+fallen_length d [] = refl
+fallen_length d (x ∷ xs) = ap suc (fallen_length d xs)
+
 neat_fallen : (xs : List Entry) (d : ℕ) → Neat xs → Neat (fallen d xs)
 neat_fallen xs d n = record {
   apart = fallen_apart d xs n.apart;
@@ -243,90 +212,45 @@ neat_fallen xs d n = record {
   credits = fallen_all (λ (y : Entry). y.credit ≤ 65280) (λ (y : Entry). y.credit ≤ 65280) d xs (λ y k. omega arith) n.credits;
 }
 
-neat_removed : (xs : List Entry) (i : ℕ) → i < length xs → Neat xs → Neat (remove xs i)
+pub neat_removed : (xs : List Entry) (i : ℕ) → i < length xs → Neat xs → Neat (remove xs i)
 neat_removed xs i h n = subst Neat (without_at (entry_at xs i).slot xs i n.apart h refl) (neat_without xs (entry_at xs i).slot n)
 
-fallen_length : (d : ℕ) (xs : List Entry) → length (fallen d xs) ≡ length xs
-fallen_length d [] = refl
-fallen_length d (x ∷ xs) = ap suc (fallen_length d xs)
+-- ---- the calls
 
--- ---- the calls, over the table
+pub flat_waits : (xs : List Entry) (s : ℕ) → waits s (flat_order xs).waiting ≡ waits s xs
+flat_waits xs s = merged_waits s [] xs
 
-module _ (table : List Entry) (count : ℕ) (k : Kept table count) where
-  pub listed_long : length (take count table) ≡ count
-  listed_long = let a = k.long in let b = k.within in length-take-le count table (omega arith)
+pub flat_due : (xs : List Entry) → some_due (flat_order xs).waiting ≡ some_due xs
+flat_due xs = merged_due [] xs
 
-  pub listed_at : (i : ℕ) → i < count → entry_at (take count table) i ≡ entry_at table i
-  listed_at i h = get_or-take count table i (entry 0 0) h
+-- where a search found the slot, it waits, and only the entry there goes with it
+module _ (xs : List Entry) (s i : ℕ) (found : Found xs s (Some i)) where
+  pub found_waits : waits s (flat_order xs).waiting ≡ true
+  found_waits = flat_waits xs s ∙ waits_here s xs i found.0 found.1
 
-  pub flat_waits : (s : ℕ) → waits s (flat_order table count).waiting ≡ waits s (take count table)
-  flat_waits s = merged_waits s [] (take count table)
+  pub found_gone : Neat xs → (flat_order (remove xs i)).waiting ≡ without s (flat_order xs).waiting
+  found_gone n = ap (merged []) (sym (without_at s xs i n.apart found.0 found.1)) ∙ sym (merged_without s [] xs tt)
 
-  pub flat_waits_here : (s i : ℕ) → i < length (take count table) → (entry_at (take count table) i).slot ≡ s → waits s (flat_order table count).waiting ≡ true
-  flat_waits_here s i h e = flat_waits s ∙ waits_here s (take count table) i h e
+pub flat_placed : (xs : List Entry) (s c : ℕ) → (flat_order (xs ++ entry s c ∷ [])).waiting ≡ joined (entry s c) (flat_order xs).waiting
+flat_placed xs s c = merged_append [] xs (entry s c ∷ [])
 
-  pub flat_due : some_due (flat_order table count).waiting ≡ some_due (take count table)
-  flat_due = merged_due [] (take count table)
+-- the first of the least leaves, and the others fall: as the vector has it, and what is written through its slice
+module _ (xs : List Entry) (i : ℕ) (l : FirstLeast xs i) (e : Entry) (is : e ≡ slice_index_or xs i e) where
+  least_is : entry_at xs i ≡ e
+  least_is = get_or_default xs i (entry 0 0) e l.inside ∙ sym is
 
-  module _ (s c : ℕ) (s-in : s < 1024) (out : waits s (take count table) ≡ false) where
-    pub place_room : count < 1024
-    place_room = let l = listed_long in let r = room (take count table) s k.neat s-in out in omega arith
+  pub expel_over : Over e.credit (remove xs i)
+  expel_over = subst (λ (y : Entry). Over y.credit (remove xs i)) least_is (least_over xs i l)
 
-    pushed : take (count + 1) (slice_set table count (entry s c)) ≡ take count table ++ entry s c ∷ []
-    pushed = let a = k.long in let r = place_room in take_more_set table count (entry s c) (omega arith)
+  pub expel_leaver : Some (record { slot = e.slot; credit = e.credit }) ≡ leaver (flat_order xs).waiting
+  expel_leaver = sym (ap leaver (least_leads xs i l) ∙ ap (λ (y : Entry). Some (record { slot = y.slot; credit = y.credit })) least_is)
 
-    pub place_kept : c ≤ 65280 → Kept (slice_set table count (entry s c)) (count + 1)
-    place_kept h = record {
-      long = length-set table count (entry s c) ∙ k.long;
-      within = let r = place_room in omega arith;
-      neat = subst Neat (sym pushed) (neat_push (take count table) s c k.neat s-in out h);
-    }
+  module _ (ys zs : List Entry) (gone : ys ≡ remove xs i) (low : zs ≡ fallen e.credit ys) where
+    pub expel_written : refill (length ys) ys zs ≡ fallen e.credit (remove xs i)
+    expel_written = take_at zs (drop (length zs) ys) (length ys) (ap length low ∙ fallen_length e.credit ys) ∙ low ∙ ap (fallen e.credit) gone
 
-    pub place_waiting : (flat_order (slice_set table count (entry s c)) (count + 1)).waiting ≡ joined (entry s c) (flat_order table count).waiting
-    place_waiting = ap (merged []) pushed ∙ merged_append [] (take count table) (entry s c ∷ [])
+    pub expel_neat : Neat xs → Neat (refill (length ys) ys zs)
+    expel_neat n = subst Neat (sym expel_written) (neat_fallen (remove xs i) e.credit (neat_removed xs i l.inside n))
 
-  -- the entry at i is gone
-  module _ (i : ℕ) (table' : List Entry) (i-in : i < count) (same : length table' ≡ length table) (gap : take (count - 1) table' ≡ remove (take count table) i) where
-    i_listed : i < length (take count table)
-    i_listed = let l = listed_long in omega arith
-
-    pub gone_kept : Kept table' (count - 1)
-    gone_kept = record {
-      long = same ∙ k.long;
-      within = let b = k.within in omega arith;
-      neat = subst Neat (sym gap) (neat_removed (take count table) i i_listed k.neat);
-    }
-
-    pub gone_waiting : (s : ℕ) → (entry_at (take count table) i).slot ≡ s → (flat_order table' (count - 1)).waiting ≡ without s (flat_order table count).waiting
-    gone_waiting s e =
-        ap (merged []) (gap ∙ sym (without_at s (take count table) i k.neat.apart i_listed e)) ∙ sym (merged_without s [] (take count table) tt)
-
-    pub expel_over : FirstLeast (take count table) i → Over (entry_at table i).credit (take (count - 1) table')
-    expel_over l = let a = listed_at i i-in in rw (gap, ← a) (least_over (take count table) i l)
-
-    module _ (l : FirstLeast (take count table) i) (ys : List Entry) (low : ys ≡ fallen (entry_at table i).credit (take (count - 1) table')) where
-      front_long : length ys ≡ count - 1
-      front_long =
-          let a = k.long in let b = k.within in
-          let f = fallen_length (entry_at table i).credit (take (count - 1) table') in
-          let g = length-take-le (count - 1) table' (omega arith) in
-          let e = ap length low in omega arith
-
-      front : take (count - 1) (ys ++ drop (count - 1) table') ≡ fallen (entry_at table i).credit (remove (take count table) i)
-      front = take_at ys (drop (count - 1) table') (count - 1) front_long ∙ low ∙ ap (fallen (entry_at table i).credit) gap
-
-      pub expel_kept : Kept (ys ++ drop (count - 1) table') (count - 1)
-      expel_kept = record {
-        long = (let a = length-append ys (drop (count - 1) table') in let b = length-drop (count - 1) table' in let f = front_long in let d = k.long in let g = k.within in omega arith);
-        within = (let b = k.within in omega arith);
-        neat = subst Neat (sym front) (neat_fallen (remove (take count table) i) (entry_at table i).credit (neat_removed (take count table) i i_listed k.neat));
-      }
-
-      pub expel_leaver : leaver (flat_order table count).waiting ≡ Some (record { slot = (entry_at table i).slot; credit = (entry_at table i).credit })
-      expel_leaver = ap leaver (least_leads (take count table) i l)
-          ∙ ap (λ (e : Entry). Some (record { slot = e.slot; credit = e.credit })) (listed_at i i-in)
-
-      pub expel_waiting : (flat_order (ys ++ drop (count - 1) table') (count - 1)).waiting ≡ rest (flat_order table count).waiting
-      expel_waiting = ap (merged []) front
-          ∙ ap (λ (e : Entry). merged [] (fallen e.credit (remove (take count table) i))) (sym (listed_at i i-in))
-          ∙ sym (least_rest (take count table) i l)
+    pub expel_waiting : (flat_order (refill (length ys) ys zs)).waiting ≡ rest (flat_order xs).waiting
+    expel_waiting = ap (merged []) expel_written ∙ ap (λ (y : Entry). merged [] (fallen y.credit (remove xs i))) (sym least_is) ∙ sym (least_rest xs i l)

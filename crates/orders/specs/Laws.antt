@@ -1,8 +1,6 @@
 -- The laws of an order, for the entries of a row of queues.
 use Rattle.std.specs.Prelude.{◌≡◌, ℕ, zero, suc, ◌+◌, ◌<◌, ◌≤◌, true, false, List, [], ◌∷◌, ◌++◌, ◌==◌, refl}
-use Rattle.std.proofs.Common.{sym, ap, ap₂, ◌∙◌, ⊎_elim, arith}
-use Rattle.std.proofs.Math.Bool.{Bool-set}
-use Prim.{IsProp}
+use Rattle.std.proofs.Common.{sym, ap, ◌∙◌, ⊎_elim, arith}
 use Rattle.std.specs.List.{AllByRecursion}
 use Rattle.std.proofs.ByRecursion.{All-append}
 use Rattle.std.proofs.lemmas.Bool.{cases_eq, eq-eqb, ne_eqb, or_from, or_left, or_right}
@@ -11,16 +9,6 @@ use Rattle.orders.specs.Meaning.{waits, some_due, Sorted, Apart}
 use Rattle.orders.specs.Rings.{holds, Once}
 use Rattle.orders.specs.Flat.{tagged, flat}
 use Rattle.orders.specs.Flats.{flat_from, tagged_waits, waits_append}
-
--- ---- at most one proof
-
-pub all_prop : {X : Type 0} (P : X → Type 0) → ((x : X) → IsProp (P x)) → (xs : List X) → IsProp (AllByRecursion P xs)
-all_prop P h [] a b = refl
-all_prop P h (x ∷ xs) a b = ap₂ (λ (u : P x) (v : AllByRecursion P xs). (u, v)) (h x a.0 b.0) (all_prop P h xs a.1 b.1)
-
-pub once_prop : (xs : List ℕ) → IsProp (Once xs)
-once_prop [] a b = refl
-once_prop (x ∷ xs) a b = ap₂ (λ (u : holds x xs ≡ false) (v : Once xs). (u, v)) (Bool-set (holds x xs) false a.0 b.0) (once_prop xs a.1 b.1)
 
 -- ---- who waits
 

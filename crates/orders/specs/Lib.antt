@@ -6,8 +6,9 @@ pub mod Rows
 pub mod Wheels
 pub mod Kinds
 pub mod Fresh
-pub mod Turns
+pub mod Moved
 pub mod Steps
+pub mod Turns
 pub mod Figures
 pub mod FlatTable
 pub mod Bottoms
@@ -18,3 +19,4 @@ pub mod FlatTables
 pub mod Slots
 pub mod Paths
 pub mod Merges
+pub mod Props

@@ -1,5 +1,5 @@
 -- Lists of entries that are merged, credit by credit.
-use Rattle.std.specs.Prelude.{◌≡◌, ℕ, ◌+◌, ◌-◌, ◌*◌, ◌<◌, ◌≤◌, Bool, true, false, cond, ◌||◌, List, [], ◌∷◌, ◌==◌, ◌≢◌, nat_lt, slice_set, refl}
+use Rattle.std.specs.Prelude.{◌≡◌, ℕ, ◌+◌, ◌-◌, ◌*◌, ◌<◌, ◌≤◌, Bool, true, false, cond, ◌||◌, List, [], ◌∷◌, None, Option, ◌==◌, ◌≢◌, nat_lt, slice_set, refl}
 use Rattle.std.proofs.Common.{sym, ap, ap₂, subst, ◌∙◌, ⊎_elim, arith}
 use Rattle.std.specs.List.{AllByRecursion}
 use Rattle.std.proofs.ByRecursion.{All-weaker}
@@ -8,7 +8,7 @@ use Rattle.std.proofs.lemmas.Bool.Decides.{nat_tests}
 use Rattle.std.proofs.lemmas.Bool.{cases_eq, cases_lt, eq-eqb, ne_eqb, lt-ltb, le-ltb, cond-true, cond-false, or_parts, or_from, or_left, or_right, eqb-false}
 use Rattle.orders.specs.declared.Entry.{Entry}
 use Rattle.orders.specs.Meaning.{joined, waits, without, fallen, some_due, Sorted, Apart}
-use Rattle.orders.specs.Rings.{at}
+use Rattle.orders.specs.Rings.{named, number}
 use Rattle.orders.specs.Flat.{entry}
 use Rattle.orders.specs.Wheels.{lifted, lift, merged, Over}
 use Rattle.orders.specs.Flats.{joined_front}
@@ -226,7 +226,7 @@ all_waits (x ∷ xs) = (
 pub all_who : (P : ℕ → Type 0) (xs : List Entry) → ((s : ℕ) → waits s xs ≡ true → P s) → AllByRecursion (λ (y : Entry). P y.slot) xs
 all_who P xs f = All-weaker (λ (y : Entry). waits y.slot xs ≡ true) (λ (y : Entry). P y.slot) (λ y k. f y.slot k) xs (all_waits xs)
 
-module _ (p : ℕ) (later : List ℕ) where
+module _ (p : ℕ) (later : List (Option ℕ)) where
   pub lift_waits : (s : ℕ) (es : List Entry) → waits s (lift p later es) ≡ waits s es
   lift_waits s [] = refl
   lift_waits s (e ∷ es) = ap (λ (b : Bool). (e.slot == s) || b) (lift_waits s es)
@@ -242,34 +242,34 @@ module _ (p : ℕ) (later : List ℕ) where
       (λ k. ap (lift p later) (drop_else s e es k) ∙ ap (λ (zs : List Entry). lifted p later e ∷ zs) (lift_without s es) ∙ sym (drop_else s (lifted p later e) (lift p later es) k))
       (cases_eq e.slot s)
 
-  pub lift_set : (s r : ℕ) (es : List Entry) → waits s es ≡ false → lift p (slice_set later s r) es ≡ lift p later es
+  pub lift_set : (s : ℕ) (r : Option ℕ) (es : List Entry) → waits s es ≡ false → lift p (slice_set later s r) es ≡ lift p later es
   lift_set s r [] h = refl
   lift_set s r (e ∷ es) h =
       let q = or_parts (e.slot == s) (waits s es) h in
-      let g : at (slice_set later s r) e.slot ≡ at later e.slot = get_or-set_other later s e.slot r 0 (eqb-false e.slot s q.0) in
+      let g : number (named (slice_set later s r) e.slot) ≡ number (named later e.slot) = ap number (get_or-set_other later s e.slot r None (eqb-false e.slot s q.0)) in
       ap₂ (λ (k : ℕ) (zs : List Entry). entry e.slot (256 * e.credit + k - p) ∷ zs) g (lift_set s r es q.1)
 
   pub lift_fall : (d : ℕ) (es : List Entry) → fallen d (lift p later es) ≡ lift (p + d) later es
   lift_fall d [] = refl
   lift_fall d (e ∷ es) =
-      let g : 256 * e.credit + at later e.slot - p - d ≡ 256 * e.credit + at later e.slot - (p + d) = omega arith in
+      let g : 256 * e.credit + number (named later e.slot) - p - d ≡ 256 * e.credit + number (named later e.slot) - (p + d) = omega arith in
       ap₂ (λ (k : ℕ) (zs : List Entry). entry e.slot k ∷ zs) g (lift_fall d es)
 
   pub lift_down : (b : ℕ) (es : List Entry) → p ≤ 256 * b → Over b es → fallen (256 * b - p) (lift p later es) ≡ lift 0 later (fallen b es)
   lift_down b [] h a = refl
   lift_down b (e ∷ es) h a =
       let l : b ≤ e.credit = a.0 in
-      let g : 256 * e.credit + at later e.slot - p - (256 * b - p) ≡ 256 * (e.credit - b) + at later e.slot - 0 = omega arith in
+      let g : 256 * e.credit + number (named later e.slot) - p - (256 * b - p) ≡ 256 * (e.credit - b) + number (named later e.slot) - 0 = omega arith in
       ap₂ (λ (k : ℕ) (zs : List Entry). entry e.slot k ∷ zs) g (lift_down b es h a.1)
 
   -- a lifted list over a credit below
-  lift_above : (e : Entry) (es : List Entry) → p < 256 → 1 ≤ e.credit → at later e.slot < 256 → AllByRecursion (λ (y : Entry). e.credit < y.credit) es →
+  lift_above : (e : Entry) (es : List Entry) → p < 256 → 1 ≤ e.credit → number (named later e.slot) < 256 → AllByRecursion (λ (y : Entry). e.credit < y.credit) es →
       AllByRecursion (λ (y : Entry). (lifted p later e).credit < y.credit) (lift p later es)
   lift_above e [] h c r a = tt
   lift_above e (y ∷ es) h c r a = let l : e.credit < y.credit = a.0 in (omega arith, lift_above e es h c r a.1)
 
   -- what joins below joins here
-  pub lift_join : (acc : List Entry) (e : Entry) (es : List Entry) → p < 256 → 1 ≤ e.credit → at later e.slot < 256 → Sorted es →
+  pub lift_join : (acc : List Entry) (e : Entry) (es : List Entry) → p < 256 → 1 ≤ e.credit → number (named later e.slot) < 256 → Sorted es →
       merged acc (lift p later (joined e es)) ≡ joined (lifted p later e) (merged acc (lift p later es))
   lift_join acc e [] h c r o = refl
   lift_join acc e (y ∷ es) h c r o = ⊎_elim

@@ -1,8 +1,5 @@
-ghost use Rattle.std.specs.Prelude.{◌≡◌};
-ghost use Rattle.orders.specs.Fresh.{FreshBottom};
-ghost use Rattle.orders.specs.Kinds.{bottoms};
+ghost use Rattle.std.specs.Prelude.{◌≡◌, ◌<◌};
 ghost use Rattle.orders.specs.Meaning.{takes, placed, waits, withdrawn, leaver, expelled};
-ghost use Rattle.orders.specs.Turns.{BottomPlace, BottomWithdraw, BottomExpel};
 ghost use Rattle.orders.specs.Bottoms.{bottom_lawful};
 
 use crate::queues::{QUEUES, Queues};
@@ -13,9 +10,12 @@ use crate::{BOTTOM_SPAN, Expelled, Order, SLOTS};
 pub struct BottomWheel {
     queues: Queues,
     hand: u8,
+    ghost hand_in: { hand < 256 },
 }
 
 impl BottomWheel {
+    ghost use Rattle.orders.specs.Fresh.{FreshBottom};
+
     /// A bottom wheel in which no slot waits, with the hand at 0.
     pub fn new() -> BottomWheel
         ensures { FreshBottom result }
@@ -28,13 +28,14 @@ impl BottomWheel {
 }
 
 impl Order for BottomWheel {
-    ghost meaning = { bottoms.meaning };
+    ghost use Rattle.orders.specs.Kinds.{bottoms};
+    ghost use Rattle.orders.specs.Turns.{BottomPlace, BottomWithdraw, BottomExpel};
 
-    ghost valid = { bottoms.valid };
+    ghost meaning = { bottoms.meaning };
 
     ghost rested = { bottoms.rested };
 
-    ghost lawful = { λ x s. bottom_lawful x.queues x.hand s };
+    ghost lawful = { λ w. bottom_lawful w.queues w.hand w.hand_in };
 
     fn size(&self) -> u32 {
         SLOTS
@@ -45,8 +46,6 @@ impl Order for BottomWheel {
     }
 
     fn place(&mut self, slot: u32, credit: u32) -> bool
-        requires { bottoms.valid self.old }
-        ensures still { bottoms.valid self.new }
         ensures answer { result ≡ takes (bottoms.meaning self.old) slot credit }
         ensures after { bottoms.meaning self.new ≡ placed (bottoms.meaning self.old) slot credit }
         ensures went { BottomPlace result slot credit self.old self.new }
@@ -63,8 +62,6 @@ impl Order for BottomWheel {
     }
 
     fn withdraw(&mut self, slot: u32) -> bool
-        requires { bottoms.valid self.old }
-        ensures still { bottoms.valid self.new }
         ensures answer { result ≡ waits slot (bottoms.meaning self.old).waiting }
         ensures after { bottoms.meaning self.new ≡ withdrawn (bottoms.meaning self.old) slot }
         ensures went { BottomWithdraw result slot self.old self.new }
@@ -80,26 +77,19 @@ impl Order for BottomWheel {
     }
 
     fn expel(&mut self) -> Option<Expelled>
-        requires { bottoms.valid self.old }
-        ensures still { bottoms.valid self.new }
         ensures answer { result ≡ leaver (bottoms.meaning self.old).waiting }
         ensures after { bottoms.meaning self.new ≡ expelled (bottoms.meaning self.old) }
         ensures went { BottomExpel result self.old self.new }
     {
         let hand = self.hand as usize;
-        match self.queues.around(hand) {
-            None => None,
-            Some(far) => {
-                let q = (hand + far) % QUEUES;
-                let slot = self.queues.front(q);
-                self.queues.remove(slot);
-                self.hand = q as u8;
-                Some(Expelled {
-                    slot: slot as u32,
-                    credit: far as u32,
-                })
-            }
-        }
+        let far = self.queues.around(hand)?;
+        let q = (hand + far) % QUEUES;
+        let slot = self.queues.pop(q);
+        self.hand = q as u8;
+        Some(Expelled {
+            slot: slot as u32,
+            credit: far as u32,
+        })
     }
 
     fn due(&self) -> bool {
@@ -107,7 +97,6 @@ impl Order for BottomWheel {
     }
 
     fn empty(&mut self) {
-        self.queues = Queues::new();
-        self.hand = 0;
+        *self = BottomWheel::new();
     }
 }

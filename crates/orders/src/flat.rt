@@ -1,27 +1,29 @@
-ghost use Rattle.std.specs.Prelude.{◌≡◌, ℕ, ◌-◌, ◌<◌, ◌≤◌, length, take};
-ghost use Rattle.std.specs.List.{remove};
-ghost use Rattle.orders.specs.Meaning.{fallen, emptied, some_due};
-ghost use Rattle.orders.specs.FlatTable.{flat_order, Kept, Found, FirstLeast, FreshFlat, permitted};
+ghost use Rattle.std.specs.Prelude.{◌≡◌, ◌<◌, length};
+ghost use Rattle.orders.specs.Meaning.{fallen, some_due};
+ghost use Rattle.orders.specs.FlatTable.{Neat, Found, FirstLeast, permitted};
+ghost use Rattle.orders.specs.Props.{neat_prop};
 ghost use Rattle.orders.specs.Wheels.{Over};
 ghost use Rattle.orders.specs.FlatTables.{neat_lawful};
 
-use crate::{Entry, Expelled, FLAT_SPAN, Order, SLOTS};
+use crate::{Entry, Expelled, FLAT_SPAN, Order, PLACES, SLOTS};
+use arrayvec::ArrayVec;
 
-/// The flat order: a table of the entries in the order of their placing, which is searched.
+/// The flat order: a list of the entries in the order of their placing, which is searched.
 #[derive(Drop)]
 pub struct FlatOrder {
-    table: [Entry; 1024],
-    count: usize,
+    entries: ArrayVec<Entry, PLACES>,
+    ghost neat: { Neat entries.items } by { neat_prop entries.items },
 }
 
 impl FlatOrder {
+    ghost use Rattle.orders.specs.Fresh.{FreshFlat};
+
     /// Nothing waits.
     pub fn new() -> FlatOrder
         ensures { FreshFlat result }
     {
         FlatOrder {
-            table: [Entry { slot: 0, credit: 0 }; 1024],
-            count: 0,
+            entries: ArrayVec::new(),
         }
     }
 }
@@ -37,12 +39,7 @@ fn within_limits(slot: u32, credit: u32) -> bool
 fn find(entries: &[Entry], slot: u32) -> Option<usize>
     ensures { Found entries.now slot result }
 {
-    for (i, e) in entries.iter().enumerate() {
-        if e.slot == slot {
-            return Some(i);
-        }
-    }
-    None
+    entries.iter().position(|entry| entry.slot == slot)
 }
 
 // The first of the entries that have the least credit.
@@ -51,8 +48,8 @@ fn first_least(entries: &[Entry]) -> usize
     ensures { FirstLeast entries.now result }
 {
     let mut best = 0;
-    for i in 1..entries.len() {
-        if entries[i].credit < entries[best].credit {
+    for (i, entry) in entries.iter().enumerate() {
+        if entry.credit < entries[best].credit {
             best = i;
         }
     }
@@ -63,20 +60,7 @@ fn first_least(entries: &[Entry]) -> usize
 fn any_due(entries: &[Entry]) -> bool
     ensures { result ≡ some_due entries.now }
 {
-    for e in entries {
-        if e.credit == 0 {
-            return true;
-        }
-    }
-    false
-}
-
-// Takes the entry at `i` out; the later ones move up.
-fn close_gap(table: &mut [Entry], count: usize, i: usize)
-    requires { (i < count) × (count ≤ length table.old) }
-    ensures { take (count - 1) table.new ≡ remove (take count table.old) i }
-{
-    table[i..count].rotate_left(1);
+    entries.iter().any(|entry| entry.credit == 0)
 }
 
 // Takes `by` off every credit.
@@ -84,22 +68,22 @@ fn lower(entries: &mut [Entry], by: u32)
     requires { Over by entries.old }
     ensures { entries.new ≡ fallen by entries.old }
 {
-    for e in entries.iter_mut() {
-        e.credit -= by;
+    for entry in entries.iter_mut() {
+        entry.credit -= by;
     }
 }
 
 impl Order for FlatOrder {
-    ghost meaning = { λ o. flat_order o.table o.count };
+    ghost use Rattle.orders.specs.Kinds.{flats};
 
-    ghost valid = { λ o. Kept o.table o.count };
+    ghost meaning = { flats.meaning };
 
-    ghost rested = { λ _. Unit {0} };
+    ghost rested = { flats.rested };
 
-    ghost lawful = { λ o k. neat_lawful o.table o.count k.neat };
+    ghost lawful = { λ o. neat_lawful o.entries.items o.neat };
 
     fn size(&self) -> u32 {
-        self.table.len() as u32
+        self.entries.capacity() as u32
     }
 
     fn span(&self) -> u32 {
@@ -110,47 +94,40 @@ impl Order for FlatOrder {
         if !within_limits(slot, credit) {
             return false;
         }
-        let count = self.count;
-        match find(&self.table[..count], slot) {
+        match find(&self.entries, slot) {
             Some(_) => false,
             None => {
-                self.table[count] = Entry { slot, credit };
-                self.count = count + 1;
+                self.entries.push(Entry { slot, credit });
                 true
             }
         }
     }
 
     fn withdraw(&mut self, slot: u32) -> bool {
-        let count = self.count;
-        match find(&self.table[..count], slot) {
+        match find(&self.entries, slot) {
             None => false,
             Some(at) => {
-                close_gap(&mut self.table, count, at);
-                self.count = count - 1;
+                self.entries.remove(at);
                 true
             }
         }
     }
 
     fn expel(&mut self) -> Option<Expelled> {
-        let count = self.count;
-        if count == 0 {
+        if self.entries.is_empty() {
             return None;
         }
-        let i = first_least(&self.table[..count]);
-        let Entry { slot, credit } = self.table[i];
-        close_gap(&mut self.table, count, i);
-        lower(&mut self.table[..count - 1], credit);
-        self.count = count - 1;
+        let i = first_least(&self.entries);
+        let Entry { slot, credit } = self.entries.remove(i);
+        lower(&mut self.entries, credit);
         Some(Expelled { slot, credit })
     }
 
     fn due(&self) -> bool {
-        any_due(&self.table[..self.count])
+        any_due(&self.entries)
     }
 
     fn empty(&mut self) {
-        self.count = 0;
+        self.entries.clear();
     }
 }

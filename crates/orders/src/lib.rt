@@ -1,7 +1,7 @@
 //! Orders: which slot leaves first. A slot is placed with a credit; the slot of least credit leaves first, the oldest
 //! placing first among equals, and every credit that remains falls by the credit of the one that left. This crate has the
 //! meaning of an order, the trait `Order` that says it, and the orders that keep it: the flat order, the bottom wheel, a
-//! wheel over any order, and the pile of the last two. It depends on `std` alone.
+//! wheel over any order, and the pile of the last two. It depends on `std` and `arrayvec`.
 #![tactic(auto)]
 
 ghost use Rattle.std.specs.Prelude.{◌≡◌};
@@ -11,6 +11,7 @@ mod bottom;
 mod figures;
 mod flat;
 mod marks;
+mod own;
 mod pile;
 mod queues;
 mod wheel;
@@ -24,6 +25,9 @@ pub use wheel::Wheel;
 /// How many slots an order of this crate has: they are numbered from 0.
 pub const SLOTS: u32 = 1024;
 
+/// The slots, as places of a table.
+pub(crate) const PLACES: usize = SLOTS as usize;
+
 /// The greatest credit in a bottom wheel, one less than its queues.
 pub const BOTTOM_SPAN: u32 = 255;
 
@@ -34,13 +38,14 @@ pub const FLAT_SPAN: u32 = 65_280;
 pub const SPAN_BELOW: u32 = 16_777_215;
 
 /// A slot that waits, and its credit.
-#[derive(Clone, Copy, Debug, PartialEq)]
+#[derive(Clone, Copy, Debug, Default, PartialEq)]
 pub struct Entry {
     pub slot: u32,
     pub credit: u32,
 }
 
-/// A slot that has left, and the credit it left with, by which every remaining credit fell.
+/// A slot that has left, and the credit it left with, by which every remaining credit fell. It is no `Entry`:
+/// what leaves may come to tell more than what waits.
 #[derive(Clone, Copy, Debug, PartialEq)]
 pub struct Expelled {
     pub slot: u32,
@@ -52,56 +57,43 @@ pub trait Order {
     /// Size, span and the list of waiting entries, least credit first, oldest placing first among equals.
     ghost meaning: { Self → OrderMeaning };
 
-    /// The states that the calls keep to: constructors make one, and every call leaves one.
-    ghost valid: { Self → Type 0 };
-
     /// Every hand is at 0. An order without hands is always at rest.
     ghost rested: { Self → Type 0 };
 
     /// How many slots there are: they are numbered from 0.
     fn size(&self) -> u32
-        requires { valid self.now }
         ensures { result ≡ (meaning self.now).size };
 
     /// The greatest credit that a placing may have.
     fn span(&self) -> u32
-        requires { valid self.now }
         ensures { result ≡ (meaning self.now).span };
 
+    // Slot and credit are given apart, and not as an `Entry`: a caller has the one from its directory and the other as a cost.
     /// The slot joins behind all of its credit or less. Declines (answers false) exactly if the slot is not below the
     /// size, waits already, or the credit is 0 or above the span.
     fn place(&mut self, slot: u32, credit: u32) -> bool
-        requires { valid self.old }
-        ensures still { valid self.new }
         ensures answer { result ≡ takes (meaning self.old) slot credit }
         ensures after { meaning self.new ≡ placed (meaning self.old) slot credit };
 
     /// The slot goes, and nothing else moves. Declines (answers false) exactly if the slot does not wait.
     fn withdraw(&mut self, slot: u32) -> bool
-        requires { valid self.old }
-        ensures still { valid self.new }
         ensures answer { result ≡ waits slot (meaning self.old).waiting }
         ensures after { meaning self.new ≡ withdrawn (meaning self.old) slot };
 
     /// The first slot leaves, and every remaining credit falls by its credit. Answers `None` exactly if no slot waits.
     fn expel(&mut self) -> Option<Expelled>
-        requires { valid self.old }
-        ensures still { valid self.new }
         ensures answer { result ≡ leaver (meaning self.old).waiting }
         ensures after { meaning self.new ≡ expelled (meaning self.old) };
 
     /// Whether some slot has credit 0. Moves nothing.
     fn due(&self) -> bool
-        requires { valid self.now }
         ensures { result ≡ some_due (meaning self.now).waiting };
 
     /// No slot waits any more, and the hands are at 0.
     fn empty(&mut self)
-        requires { valid self.old }
-        ensures still { valid self.new }
         ensures after { meaning self.new ≡ emptied (meaning self.old) }
         ensures hands { rested self.new };
 
     /// The list is sorted, its slots are distinct and below the size, and its credits are at most the span.
-    ghost lawful: { (o : Self) → valid o → Lawful (meaning o) };
+    ghost lawful: { (o : Self) → Lawful (meaning o) };
 }

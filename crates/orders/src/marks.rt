@@ -36,19 +36,17 @@ impl Marks {
         requires { p < 256 }
         ensures { MatchOption result (NoneMarked self.now.words p 256) (FirstMarked self.now.words p) }
     {
-        let mut word = p / 64;
-        let part = self.words[word] >> (p % 64);
+        let first = p / 64;
+        let part = self.words[first] >> (p % 64);
         if part != 0 {
             return Some(p + part.trailing_zeros() as usize);
         }
-        word += 1;
-        while word < 4 {
-            let whole = self.words[word];
-            if whole != 0 {
-                return Some(word * 64 + whole.trailing_zeros() as usize);
-            }
-            word += 1;
-        }
-        None
+        let (word, whole) = self
+            .words
+            .iter()
+            .enumerate()
+            .skip(first + 1)
+            .find(|(_, whole)| **whole != 0)?;
+        Some(word * 64 + whole.trailing_zeros() as usize)
     }
 }

@@ -219,7 +219,7 @@ module _ {K : Type 0} (same : K → K → Bool) where
       let lt : i < slots s = held_below same s.directory i h in
       can_place (withdrawn s.order i) i c (omega (arith, S.fits)) (waits_gone i s.order.waiting) lo hi
 
-  sound_touched : (s : State K) (i : ℕ) → Sound same s → is_some (key_at s.directory i) ≡ true → Sound same (touched s i)
+  pub sound_touched : (s : State K) (i : ℕ) → Sound same s → is_some (key_at s.directory i) ≡ true → Sound same (touched s i)
   sound_touched s i S h = by (out_at s.table i) refl
     where
       after : State K

@@ -8,3 +8,4 @@ pub mod Rivals
 pub mod History
 pub mod Promises
 pub mod Examples
+pub mod Props

@@ -50,6 +50,7 @@ pub record SoundSlot (held waiting : Bool) (r : Record) (chunk span : ℕ) : Typ
   pub cost_high : held ≡ true → r.cost ≤ span
   pub short : r.len ≤ chunk
 
+-- What holds of a state between calls: the directory, the order and the table agree.
 pub record Sound {K : Type 0} (same : K → K → Bool) (s : State K) : Type 0 where
   pub few : slots s ≤ 1024
   pub fits : slots s ≤ s.order.size

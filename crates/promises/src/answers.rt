@@ -23,6 +23,7 @@ pub enum Refusal {
 }
 
 impl Refusal {
+    // A number, since that is what users know a refusal by; code tells refusals apart by the enum.
     /// The number by which users know this refusal.
     pub fn number(self) -> u8
         ensures { result ≡ number_of self }

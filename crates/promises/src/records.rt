@@ -1,3 +1,5 @@
+use directories::MOST_SLOTS;
+
 /// Whether a slot's region is out on lease.
 #[derive(Clone, Copy, Debug, PartialEq)]
 pub enum Lending {
@@ -18,7 +20,7 @@ pub struct Record {
 pub struct Table {
     pub mark: u32,
     pub chunk: usize,
-    pub records: [Record; 1024],
+    pub records: [Record; MOST_SLOTS],
 }
 
 /// What a lease shows: whose it is, and of which slot.

@@ -3,7 +3,7 @@
 #![tactic(auto)]
 
 use anyhow::anyhow;
-use replays::run_regtrace;
+use replays::{Printout, run_regtrace};
 use std::env;
 use std::io::{Read, Write};
 
@@ -31,10 +31,9 @@ fn main(rt: HostRuntime) -> anyhow::Result<()> {
     let mut input = Vec::new(heap);
     rt.stdin().take(MOST_BYTES).read_to_end(&mut input)?;
     let printout = run_regtrace(heap, input.as_slice())?;
-    rt.stdout().write_all(printout.text.as_slice())?;
-    if printout.accepted {
-        Ok(())
-    } else {
-        Err(anyhow!("the trace has a fault"))
+    rt.stdout().write_all(printout.text())?;
+    match printout {
+        Printout::Report(_) => Ok(()),
+        Printout::Fault(_) => Err(anyhow!("the trace has a fault")),
     }
 }

@@ -4,4 +4,3 @@ mod Goes
 mod Alls
 mod Owed
 mod Piles
-mod Programs

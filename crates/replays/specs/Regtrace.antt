@@ -1,12 +1,12 @@
 -- What the program decides: the text that it prints for an input, and whether it ends well.
-use Rattle.std.specs.Prelude.{◌≡◌, ℕ, ◌≤◌, Bool, true, false, cond, ◌⊎◌, List, [], ◌∷◌, Some, None, Ok, Err, Option, Result, ◌==◌}
+use Rattle.std.specs.Prelude.{◌≡◌, ℕ, ◌≤◌, true, cond, ◌⊎◌, List, [], ◌∷◌, Some, None, Ok, Err, vec_items, Option, Result, ◌==◌}
 use Rattle.keys.specs.declared.region.RegionNumber.{RegionNumber}
 use Rattle.directories.specs.Meaning.{fresh}
 use Rattle.promises.specs.declared.answers.Refusal.TheVariants.{AllOut}
 use Rattle.promises.specs.Lines.{Making}
 use Rattle.traces.specs.declared.faults.Fault.{Fault}
-use Rattle.traces.specs.declared.faults.ReadError.{ReadError}
-use Rattle.traces.specs.declared.faults.ReadError.TheVariants.{Found as Misread, Memory as Unread}
+use Rattle.traces.specs.declared.faults.TraceError.{TraceError}
+use Rattle.traces.specs.declared.faults.TraceError.TheVariants.{Found, Memory}
 use Rattle.traces.specs.declared.report.Report.{Report}
 use Rattle.traces.specs.declared.rows.Row.{Row}
 use Rattle.traces.specs.Faults.{Least, cache_fault}
@@ -14,10 +14,8 @@ use Rattle.traces.specs.Layout.{Faulty}
 use Rattle.traces.specs.Outcomes.{no_counts, tally, leavers}
 use Rattle.traces.specs.Reports.{run_text, report_text, fault_text}
 use Rattle.traces.specs.Words.{Says}
-use Rattle.replays.specs.declared.regtrace.RegtraceError.{RegtraceError}
-use Rattle.replays.specs.declared.regtrace.RegtraceError.TheVariants.{Found, Memory}
-use Rattle.replays.specs.declared.replaying.ReplayError.{ReplayError}
-use Rattle.replays.specs.declared.replaying.ReplayError.TheVariants.{Refused, Memory as Unplayed}
+use Rattle.replays.specs.declared.regtrace.Printout.{Printout}
+use Rattle.replays.specs.declared.regtrace.Printout.TheVariants.{Report as OfReport, Fault as OfFault}
 use Rattle.replays.specs.Replay.{empty, outcomes, first_fault}
 use Rattle.replays.specs.Standing.{Priced}
 
@@ -53,28 +51,26 @@ pub record Reported (input text : List ℕ) : Type 0 where
 abbrev pub Told : List ℕ → Fault → Type 0
 Told input f = Least (Faulty input) f ⊎ ((n : ℕ) × (rows : List Row) × Says input n rows × RefusedRow n rows f)
 
+-- the bytes of a printout
+abbrev pub text_in : Printout → List ℕ
+text_in (OfReport text) = vec_items text
+text_in (OfFault text) = vec_items text
+
 -- what is printed: a report, and the program ends well; or else a fault
-abbrev pub Prints : List ℕ → List ℕ → Bool → Type 0
-Prints input text true = Reported input text
-Prints input text false = (f : Fault) × Told input f × (text ≡ fault_text f)
-
--- the errors of reading and of replaying
-abbrev pub of_read : ReadError → RegtraceError
-of_read (Misread f) = Found f
-of_read Unread = Memory
-
-abbrev pub of_replay : ReplayError → RegtraceError
-of_replay (Refused f) = Found f
-of_replay Unplayed = Memory
+abbrev pub Prints : List ℕ → Printout → Type 0
+Prints input (OfReport text) = Reported input (vec_items text)
+Prints input (OfFault text) = (f : Fault) × Told input f × (vec_items text ≡ fault_text f)
 
 -- what is printed of a report or a fault
-abbrev pub Shows : Result Report RegtraceError → List ℕ → Bool → Type 0
-Shows (Ok x) text b = (text ≡ report_text x) × (b ≡ true)
-Shows (Err (Found f)) text b = (text ≡ fault_text f) × (b ≡ false)
-Shows (Err Memory) text b = ⊥
+abbrev pub Shows : Result Report TraceError → Printout → Type 0
+Shows (Ok x) (OfReport text) = vec_items text ≡ report_text x
+Shows (Ok x) (OfFault text) = ⊥
+Shows (Err (Found f)) (OfReport text) = ⊥
+Shows (Err (Found f)) (OfFault text) = vec_items text ≡ fault_text f
+Shows (Err Memory) p = ⊥
 
 -- the report or the fault of an input
-abbrev pub Runs : List ℕ → Result Report RegtraceError → Type 0
+abbrev pub Runs : List ℕ → Result Report TraceError → Type 0
 Runs input (Ok x) = Reported input (report_text x)
 Runs input (Err (Found f)) = Told input f
 Runs input (Err Memory) = Unit {0}

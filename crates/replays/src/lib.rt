@@ -9,5 +9,5 @@ mod replaying;
 mod visits;
 
 pub use example::example_stands;
-pub use regtrace::{Printout, RegtraceError, pile_stands, run_regtrace};
-pub use replaying::{ReplayError, Replayed, replay};
+pub use regtrace::{Printout, pile_stands, run_regtrace};
+pub use replaying::{Replayed, replay};

@@ -1,63 +1,40 @@
 // What the program `regtrace` decides.
 ghost use Rattle.std.specs.Prelude.{◌≡◌, IfOk};
-ghost use Rattle.traces.specs.Reports.{report_text, fault_text};
 ghost use Rattle.traces.specs.Traces.{slots_in, rows_in};
-ghost use Rattle.replays.specs.Regtrace.{of_read, of_replay, pile_of, PileRefuses, Runs, Shows, Prints};
+ghost use Rattle.replays.specs.Regtrace.{pile_of, text_in, PileRefuses, Runs, Shows, Prints};
 ghost use Rattle.replays.specs.Replayed.{Answers};
 
-use crate::replaying::{ReplayError, Replayed, replay};
+use crate::replaying::{Replayed, replay};
 use directories::{Cell, HashedDirectory, MOST_SLOTS};
 use orders::new_pile;
 use std::alloc::{AllocError, Global};
-use traces::{
-    Fault, ReadError, Report, Trace, fault_len, read_trace, report_len, write_fault, write_report,
-};
+use traces::{Printable, Report, Trace, TraceError, read_trace, write_text};
 
-/// Why an input has no report: its fault, or want of memory.
-#[derive(Drop)]
-pub enum RegtraceError {
-    Found(Fault),
-    Memory,
+/// What the program prints: a report, and it ends well; or a fault.
+#[derive(Debug, PartialEq, Drop)]
+pub enum Printout {
+    Report(Vec<u8>),
+    Fault(Vec<u8>),
 }
 
-impl From<ReadError> for RegtraceError {
-    ghost from_gives = { λ e r. r ≡ of_read e };
-
-    fn from(e: ReadError) -> RegtraceError {
-        match e {
-            ReadError::Found(fault) => RegtraceError::Found(fault),
-            ReadError::Memory => RegtraceError::Memory,
+impl Printout {
+    /// What is printed.
+    pub fn text(&self) -> &[u8]
+        ensures { result.now ≡ text_in self.now }
+    {
+        match self {
+            Printout::Report(text) | Printout::Fault(text) => text.as_slice(),
         }
     }
-}
-
-impl From<ReplayError> for RegtraceError {
-    ghost from_gives = { λ e r. r ≡ of_replay e };
-
-    fn from(e: ReplayError) -> RegtraceError {
-        match e {
-            ReplayError::Refused(fault) => RegtraceError::Found(fault),
-            ReplayError::Memory => RegtraceError::Memory,
-        }
-    }
-}
-
-/// What the program prints, and whether it ends well.
-#[derive(Drop)]
-pub struct Printout {
-    pub text: Vec<u8>,
-    pub accepted: bool,
 }
 
 /// Over the pile no row is refused but the first, and that only where there is no slot.
-pub fn pile_stands() -> u8
+pub fn pile_stands()
     ensures { PileRefuses }
-{
-    0
-}
+{}
 
 /// Replays a trace over the pile and a hashed directory, with as many slots of one byte as the trace says.
-fn replay_pile(heap: Global, trace: &Trace) -> Result<Report, ReplayError>
+fn replay_pile(heap: Global, trace: &Trace) -> Result<Report, TraceError>
     ensures { Answers (pile_of (slots_in trace.now)) (slots_in trace.now) (rows_in trace.now) result }
 {
     let slots = trace.slots() as usize;
@@ -78,58 +55,36 @@ fn replay_pile(heap: Global, trace: &Trace) -> Result<Report, ReplayError>
 }
 
 /// The report of an input, or its fault.
-fn report_on(heap: Global, input: &[u8]) -> Result<Report, RegtraceError>
+fn report_on(heap: Global, input: &[u8]) -> Result<Report, TraceError>
     ensures { Runs input.now result }
 {
     let trace = read_trace(heap, input)?;
-    let report = replay_pile(heap, &trace)?;
-    Ok(report)
+    replay_pile(heap, &trace)
 }
 
-/// A report as text.
-fn report_bytes(heap: Global, report: &Report) -> Result<Vec<u8>, AllocError>
-    ensures { IfOk result (λ v. v.items ≡ report_text report.now) }
+/// The text of an item.
+fn bytes_of<T: Printable>(heap: Global, item: &T) -> Result<Vec<u8>, AllocError>
+    ensures { IfOk result (λ v. v.items ≡ T.text_of item.now) }
 {
-    let mut text = vec![in heap; 0; report_len(report)]?;
-    let _ = write_report(report, text.as_mut_slice());
-    Ok(text)
-}
-
-/// A fault as text.
-fn fault_bytes(heap: Global, fault: Fault) -> Result<Vec<u8>, AllocError>
-    ensures { IfOk result (λ v. v.items ≡ fault_text fault) }
-{
-    let mut text = vec![in heap; 0; fault_len(fault)]?;
-    let _ = write_fault(fault, text.as_mut_slice());
+    let mut text = vec![in heap; 0; item.text_len()]?;
+    let _ = write_text(item, text.as_mut_slice());
     Ok(text)
 }
 
 /// What is printed of a report or a fault.
-fn print(heap: Global, outcome: Result<Report, RegtraceError>) -> Result<Printout, AllocError>
-    ensures { IfOk result (λ p. Shows outcome p.text.items p.accepted) }
+fn print(heap: Global, outcome: Result<Report, TraceError>) -> Result<Printout, AllocError>
+    ensures { IfOk result (λ p. Shows outcome p) }
 {
     match outcome {
-        Ok(report) => {
-            let text = report_bytes(heap, &report)?;
-            Ok(Printout {
-                text,
-                accepted: true,
-            })
-        }
-        Err(RegtraceError::Found(fault)) => {
-            let text = fault_bytes(heap, fault)?;
-            Ok(Printout {
-                text,
-                accepted: false,
-            })
-        }
-        Err(RegtraceError::Memory) => Err(AllocError),
+        Ok(report) => Ok(Printout::Report(bytes_of(heap, &report)?)),
+        Err(TraceError::Found(fault)) => Ok(Printout::Fault(bytes_of(heap, &fault)?)),
+        Err(TraceError::Memory) => Err(AllocError),
     }
 }
 
 /// What the program does with an input: it prints the report of the trace that the input says, or else a fault.
 pub fn run_regtrace(heap: Global, input: &[u8]) -> Result<Printout, AllocError>
-    ensures { IfOk result (λ p. Prints input.now p.text.items p.accepted) }
+    ensures { IfOk result (λ p. Prints input.now p) }
 {
     let outcome = report_on(heap, input);
     print(heap, outcome)

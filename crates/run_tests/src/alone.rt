@@ -16,25 +16,18 @@ pub(crate) fn run_alone<K: Key, D: Directory<K>, O: Order>(
     chunk: usize,
     slab: &mut [u8],
     asks: &[Ask<K>],
-) -> (D, O, Option<Vec<Happening<K>>>)
-    requires directory { D.Directory.valid K.Key.sameness K.Key.place directory }
-    requires order { O.Order.valid order }
-{
+) -> (D, O, Option<Vec<Happening<K>>>) {
     let mut leases: Vec<Lease> = Vec::new(heap);
     let ran = run(heap, directory, order, mark, chunk, slab, asks, &mut leases);
     leases.destroy_empty();
     match ran {
-        Ok(finished) => {
-            let Finished {
+        Ok(
+            Finished {
                 directory,
                 order,
                 happenings,
-            } = finished;
-            (directory, order, Some(happenings))
-        }
-        Err(refused) => {
-            let NoRoom { directory, order } = refused;
-            (directory, order, None)
-        }
+            },
+        ) => (directory, order, Some(happenings)),
+        Err(NoRoom { directory, order }) => (directory, order, None),
     }
 }

@@ -23,18 +23,24 @@ enum Outcome {
     Other,
 }
 
-fn told_by(happening: &Happening<RegionNumber>) -> Outcome {
-    match happening {
-        Happening::Keep(key, _, Ok(Kept::Taken)) => Outcome::Taken(key.number),
-        Happening::Keep(key, _, Ok(Kept::TakenEvicting(left))) => {
-            Outcome::Evicting(key.number, left.key.number)
+impl From<&Happening<RegionNumber>> for Outcome {
+    fn from(happening: &Happening<RegionNumber>) -> Outcome {
+        match happening {
+            Happening::Keep(key, _, Ok(Kept::Taken)) => Outcome::Taken(key.number),
+            Happening::Keep(key, _, Ok(Kept::TakenEvicting(left))) => {
+                Outcome::Evicting(key.number, left.key.number)
+            }
+            Happening::Lease(key, Ok(ticket)) => Outcome::Lent(
+                key.number,
+                ticket.mark,
+                ticket.slot,
+            ),
+            Happening::State(key, Presence::Out) => Outcome::Out(key.number),
+            Happening::Write(ticket, Ok(())) => Outcome::Written(ticket.mark, ticket.slot),
+            Happening::Get(key, Ok(Some(len))) => Outcome::Found(key.number, *len),
+            Happening::GiveBack(ticket, Ok(())) => Outcome::GivenBack(ticket.mark, ticket.slot),
+            _ => Outcome::Other,
         }
-        Happening::Lease(key, Ok(ticket)) => Outcome::Lent(key.number, ticket.mark, ticket.slot),
-        Happening::State(key, Presence::Out) => Outcome::Out(key.number),
-        Happening::Write(ticket, Ok(())) => Outcome::Written(ticket.mark, ticket.slot),
-        Happening::Get(key, Ok(Some(len))) => Outcome::Found(key.number, *len),
-        Happening::GiveBack(ticket, Ok(())) => Outcome::GivenBack(ticket.mark, ticket.slot),
-        _ => Outcome::Other,
     }
 }
 
@@ -61,24 +67,21 @@ fn asks(heap: Global) -> Result<[Ask<RegionNumber>; 7], AllocError> {
 
 fn as_expected(rt: &impl Abort, told: &[Happening<RegionNumber>]) -> Result<(), Fail> {
     assert!(rt; told.len() == 8);
-    assert_eq!(rt; told_by(&told[0]), Outcome::Taken(1));
-    assert_eq!(rt; told_by(&told[1]), Outcome::Taken(2));
-    assert_eq!(rt; told_by(&told[3]), Outcome::Evicting(3, 2));
-    assert_eq!(rt; told_by(&told[4]), Outcome::Out(1));
-    assert_eq!(rt; told_by(&told[6]), Outcome::Found(1, 1));
+    assert_eq!(rt; Outcome::from(&told[0]), Outcome::Taken(1));
+    assert_eq!(rt; Outcome::from(&told[1]), Outcome::Taken(2));
+    assert_eq!(rt; Outcome::from(&told[3]), Outcome::Evicting(3, 2));
+    assert_eq!(rt; Outcome::from(&told[4]), Outcome::Out(1));
+    assert_eq!(rt; Outcome::from(&told[6]), Outcome::Found(1, 1));
     // which slot a region takes is the directory's choice, but all three calls name the same
-    match told_by(&told[2]) {
+    match Outcome::from(&told[2]) {
         Outcome::Lent(number, mark, slot) => {
             assert_eq!(rt; number, 1);
             assert_eq!(rt; mark, 7);
-            assert_eq!(rt; told_by(&told[5]), Outcome::Written(mark, slot));
-            assert_eq!(rt; told_by(&told[7]), Outcome::GivenBack(mark, slot));
+            assert_eq!(rt; Outcome::from(&told[5]), Outcome::Written(mark, slot));
+            assert_eq!(rt; Outcome::from(&told[7]), Outcome::GivenBack(mark, slot));
             Ok(())
         }
-        _ => {
-            assert!(rt; false);
-            Ok(())
-        },
+        _ => Err(Fail::new("the lease was not told")),
     }
 }
 
@@ -98,9 +101,6 @@ fn lent_to_the_end(rt: HostRuntime) -> Result<(), Fail> {
     );
     match told {
         Some(happenings) => as_expected(&rt, happenings.as_slice()),
-        None => {
-            assert!(rt; false);
-            Ok(())
-        },
+        None => Err(Fail::new("no memory")),
     }
 }

@@ -95,7 +95,7 @@ module _ {K : Type 0} (same : K → K → Bool) where
       → Closed (noted cs (gives_back (ticket_of l) r ∷ es)) t g
   close_one m every l u tr slab cs es s n t i g (Ok v) line w k q a z ih =
       let e : i ≡ hand (u ++ tr) slab = q ∙ ap (λ (x : List Lease). hand x slab) (append-nil (u ++ tr)) in
-      let y : Unknown n.table tr = subst (λ (x : State K). Unknown x.table tr) (sym z.1) (unknown_after s.table l.slot tr k) in
+      let y : Unknown n.table tr = subst (λ (x : State K). Unknown x.table tr) (sym z.1) (unknown_after s.table l.ticket.slot tr k) in
       ih tr (gives_back (ticket_of l) (Ok v) ∷ es) (s, line, z) (covers_taken l v u es w) y (subst (λ (x : Hand). Asked x (replicate (length u) (AskGive 0)) cs g) e a)
   close_one m every l u tr slab cs es s n t i g (Err f) line w k q a z ih =
       let e : i ≡ hand (u ++ (tr ++ l ∷ [])) slab = q ∙ ap (λ (x : List Lease). hand x slab) (append_assoc u tr (l ∷ [])) in

@@ -1,7 +1,7 @@
 -- Runs grow at their end.
-use Rattle.std.proofs.Common.{◌≡◌, ℕ, ◌+◌, ◌<◌, ◌≤◌, Bool, List, [], ◌∷◌, ◌++◌, map, length, get_or, take, replicate, Option, sym, refl, ap, ◌∙◌, subst, append_assoc, append-nil}
+use Rattle.std.proofs.Common.{◌≡◌, ℕ, ◌+◌, ◌<◌, Bool, List, [], ◌∷◌, ◌++◌, map, length, get_or, take, replicate, Option, sym, refl, ap, ◌∙◌, subst, append_assoc, append-nil}
 use lib.ListN.{replicate-append-replicate}
-use Rattle.std.proofs.lemmas.List.{take_more, take_all}
+use Rattle.std.proofs.lemmas.List.{take_more}
 use Rattle.promises.specs.State.{State}
 use Rattle.promises.specs.Events.{Event}
 use Rattle.runs.specs.declared.asks.Ask.{Ask}
@@ -46,9 +46,6 @@ module _ {K : Type 0} (same : K → K → Bool) where
   serve_more x y z s m t h i g all n a e b p q r d =
       let w : take (n + 1) all ≡ take n all ++ a ∷ [] = take_more all n a b ∙ ap (λ (f : Ask K). take n all ++ f ∷ []) (sym p) in
       subst (λ (f : List (Ask K)). Goes same x s h f z t g) (sym w) (goes_more x y z s m t h i g (take n all) a e q r d)
-
-  pub serve_done : (x y : List (Happening K)) (s t : State K) (h g : Hand) (all : List (Ask K)) (n : ℕ) → length all ≤ n → Goes same x s h (take n all) y t g → Goes same x s h all y t g
-  serve_done x y s t h g all n b r = subst (λ (f : List (Ask K)). Goes same x s h f y t g) (take_all n all b) r
 
   -- one more time the same ask
   pub again_more : (x y z : List (Happening K)) (s m t : State K) (h i g : Hand) (n : ℕ) (a : Ask K) (e : Happening K)

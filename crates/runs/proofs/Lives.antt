@@ -32,10 +32,9 @@ Apart l (m ∷ ls) = Differ l m × Apart l ls
 
 one_ticket : (l m : Lease) → same_ticket (ticket_of l) (ticket_of m) ≡ true → ticket_of l ≡ ticket_of m
 one_ticket l m h =
-    let p = and_parts (eqb l.mark m.mark) (eqb l.slot m.slot) h in
-    let e : l.mark ≡ m.mark = eqb-true l.mark m.mark p.0 in
-    let f : l.slot ≡ m.slot = eqb-true l.slot m.slot p.1 in
-    cc
+    let p = and_parts (eqb l.ticket.mark m.ticket.mark) (eqb l.ticket.slot m.ticket.slot) h in
+    ap (λ (x : ℕ). record { mark = x; slot = l.ticket.slot }) (eqb-true l.ticket.mark m.ticket.mark p.0)
+    ∙ ap (λ (x : ℕ). record { mark = m.ticket.mark; slot = x }) (eqb-true l.ticket.slot m.ticket.slot p.1)
 
 not_same : (l m : Lease) → Differ l m → same_ticket (ticket_of l) (ticket_of m) ≡ false
 not_same l m d = ⊎_elim (λ e. absurd (d (one_ticket l m e))) (λ e. e) (cases_Bool (same_ticket (ticket_of l) (ticket_of m)))
@@ -81,7 +80,7 @@ module _ {K : Type 0} where
 
   out_new : (es : List (Event K)) (k : K) (l : Lease) → OutNow (leases k (Ok (ticket_of l)) ∷ es) l
   out_new es k l =
-      let e : same_ticket (ticket_of l) (ticket_of l) ≡ true = and_from (eqb l.mark l.mark) (eqb l.slot l.slot) (eq-eqb l.mark l.mark refl) (eq-eqb l.slot l.slot refl) in
+      let e : same_ticket (ticket_of l) (ticket_of l) ≡ true = and_from (eqb l.ticket.mark l.ticket.mark) (eqb l.ticket.slot l.ticket.slot) (eq-eqb l.ticket.mark l.ticket.mark refl) (eq-eqb l.ticket.slot l.ticket.slot refl) in
       (k, cond-true (same_ticket (ticket_of l) (ticket_of l)) (Some k) (lent es (ticket_of l)) e)
 
   apart_of_none : (es : List (Event K)) (l m : Lease) → lent es (ticket_of l) ≡ None → OutNow es m → Differ l m

@@ -3,6 +3,7 @@ use Rattle.std.specs.Prelude.{◌≡◌, ℕ, zero, suc, Bool, List, [], ◌∷�
 use Rattle.std.specs.Borrow.{Bor}
 use Rattle.std.specs.List.{remove}
 use Rattle.std.specs.declared.alloc.Global.{Global}
+use Rattle.keys.specs.declared.Key.{Ghosts as OfKey}
 use Rattle.orders.specs.declared.Order.{Ghosts as OfOrder}
 use Rattle.directories.specs.declared.directory.Directory.{Ghosts as OfDirectory}
 use Rattle.promises.specs.declared.answers.Refusal.{Refusal}
@@ -108,5 +109,5 @@ pub record Does {K : Type 0} (same : K → K → Bool) (s : State K) (h : Hand) 
   pub told : x ≡ shown call
 
 -- the same of the states that two caches stand for
-abbrev pub Answered : {K D O : Type 0} → (K → K → Bool) → OfDirectory D K → OfOrder O → Cache K D O → Hand → Ask K → Happening K → Cache K D O → Hand → Type 0
-Answered same d o c h a x c' g = Does same (state_of d o c) h a x (state_of d o c') g
+abbrev pub Answered : {K D O : Type 0} {k : OfKey K} {d : OfDirectory D K} {o : OfOrder O} → Cache K D O k d o → Hand → Ask K → Happening K → Cache K D O k d o → Hand → Type 0
+Answered {k = k} c h a x c' g = Does k.sameness (state_of c) h a x (state_of c') g

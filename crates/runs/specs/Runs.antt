@@ -1,6 +1,7 @@
 -- A whole run: what a list of asks calls, what is told of it, and what is promised of it.
 use Rattle.std.specs.Prelude.{◌≡◌, ℕ, ◌+◌, Bool, false, ◌&&◌, List, [], ◌∷◌, ◌++◌, map, length, replicate, Some, None, Ok, Err, vec_items, vec_len, vec_capacity, Option, Result, Vec, nat_le}
 use Rattle.std.specs.declared.alloc.Global.{Global}
+use Rattle.keys.specs.declared.Key.{Ghosts as OfKey}
 use Rattle.orders.specs.declared.Order.{Ghosts as OfOrder}
 use Rattle.directories.specs.declared.directory.Directory.{Ghosts as OfDirectory}
 use Rattle.promises.specs.declared.records.Table.{Table}
@@ -47,8 +48,8 @@ pub record Goes {K : Type 0} (same : K → K → Bool) (x : List (Happening K)) 
   pub told : y ≡ x ++ map shown calls
 
 -- the same of the states that two caches stand for
-abbrev pub Served : {K D O : Type 0} → (K → K → Bool) → OfDirectory D K → OfOrder O → List (Happening K) → Cache K D O → Hand → List (Ask K) → List (Happening K) → Cache K D O → Hand → Type 0
-Served same d o x c h asks y c' g = Goes same x (state_of d o c) h asks y (state_of d o c') g
+abbrev pub Served : {K D O : Type 0} {k : OfKey K} {d : OfDirectory D K} {o : OfOrder O} → List (Happening K) → Cache K D O k d o → Hand → List (Ask K) → List (Happening K) → Cache K D O k d o → Hand → Type 0
+Served {k = k} x c h asks y c' g = Goes k.sameness x (state_of c) h asks y (state_of c') g
 
 -- each lease in hand is tried once: the first is given back, and a declined one goes to the end
 abbrev pub tries : {K : Type 0} → List Lease → List (Ask K)
@@ -80,7 +81,7 @@ scene x y h told = record { directory = x; order = y; hand = h; told = told }
 
 -- A whole run of asks over a cache that is made of the parts before it. All that is asked was done, one call after another, and then each
 -- lease in hand was tried. The events of those calls are a line that keeps the whole promise, and nothing of this cache stays out.
-pub record Ran {K D O : Type 0} (same : K → K → Bool) (home : K → ℕ) (d : OfDirectory D K) (o : OfOrder O) (mark chunk : ℕ) (asks : List (Ask K)) (before after : Scene K D O) : Type 0 where
+pub record Ran {K D O : Type 0} (same : K → K → Bool) (d : OfDirectory D K) (o : OfOrder O) (mark chunk : ℕ) (asks : List (Ask K)) (before after : Scene K D O) : Type 0 where
   -- the call of each ask, and of each lease that was tried at the end
   pub calls : List (Option (Event K))
   pub backs : List (Option (Event K))
@@ -104,18 +105,16 @@ pub record Ran {K D O : Type 0} (same : K → K → Bool) (home : K → ℕ) (d 
   pub unknown : Unknown last.table after.hand.leases
   -- a host that hands in no lease gets none back: each lease that it had was of this cache, and was given back
   pub none_left : before.hand.leases ≡ [] → after.hand.leases ≡ []
-  -- the parts that come back are valid, and stand for the last state
-  pub directory_valid : d.valid same home after.directory
-  pub order_valid : o.valid after.order
+  -- the parts that come back stand for the last state
   pub directory_after : d.meaning after.directory ≡ last.directory
   pub order_after : o.meaning after.order ≡ last.order
 
 -- With room the asks were run; without it nothing was called, and all is as before.
-abbrev pub Ended : {K D O : Type 0} → (K → K → Bool) → (K → ℕ) → OfDirectory D K → OfOrder O → ℕ → ℕ → List (Ask K) → Scene K D O → Result (D × O) (NoRoom D O) → Hand → List (Happening K) → Type 0
-Ended same home d o mark chunk asks before (Ok p) h told = Ran same home d o mark chunk asks before (scene p.0 p.1 h told)
-Ended same home d o mark chunk asks before (Err n) h told = scene n.directory n.order h told ≡ before
+abbrev pub Ended : {K D O : Type 0} → (K → K → Bool) → OfDirectory D K → OfOrder O → ℕ → ℕ → List (Ask K) → Scene K D O → Result (D × O) (NoRoom D O) → Hand → List (Happening K) → Type 0
+Ended same d o mark chunk asks before (Ok p) h told = Ran same d o mark chunk asks before (scene p.0 p.1 h told)
+Ended same d o mark chunk asks before (Err n) h told = scene n.directory n.order h told ≡ before
 
 -- The same where the run makes its own list of what it tells.
-abbrev pub Finishes : {K D O : Type 0} → (K → K → Bool) → (K → ℕ) → OfDirectory D K → OfOrder O → ℕ → ℕ → List (Ask K) → Scene K D O → Result (Finished K D O) (NoRoom D O) → Hand → Type 0
-Finishes same home d o mark chunk asks before (Ok f) h = Ran same home d o mark chunk asks before (scene f.directory f.order h (vec_items f.happenings))
-Finishes same home d o mark chunk asks before (Err n) h = scene n.directory n.order h [] ≡ before
+abbrev pub Finishes : {K D O : Type 0} → (K → K → Bool) → OfDirectory D K → OfOrder O → ℕ → ℕ → List (Ask K) → Scene K D O → Result (Finished K D O) (NoRoom D O) → Hand → Type 0
+Finishes same d o mark chunk asks before (Ok f) h = Ran same d o mark chunk asks before (scene f.directory f.order h (vec_items f.happenings))
+Finishes same d o mark chunk asks before (Err n) h = scene n.directory n.order h [] ≡ before

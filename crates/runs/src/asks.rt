@@ -1,5 +1,6 @@
 use cache::{Evicted, Kept, Presence, Refusal, Ticket};
 
+// The fields have no names: they are the parameters of the call, in its order, and no two have one type.
 /// What is asked of a cache. A lease is named by its place in the list of those in hand, the oldest first.
 #[derive(Drop)]
 pub enum Ask<K> {

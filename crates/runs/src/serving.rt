@@ -1,6 +1,5 @@
 // All asks, one after another, and the leases that are in hand at the end.
 ghost use Rattle.std.specs.Prelude.{◌≡◌, ℕ, ◌+◌, ◌≤◌, List, length, vec_len, vec_capacity};
-ghost use Rattle.cache.specs.Whole.{Good};
 ghost use Rattle.runs.specs.Asks.{in_hand};
 ghost use Rattle.runs.specs.Runs.{Served, tries};
 
@@ -19,11 +18,9 @@ pub(crate) fn serve<K: Key, D: Directory<K>, O: Order>(
     slab: &mut [u8],
     happenings: &mut Vec<Happening<K>>,
 )
-    requires good { Good K.Key.sameness K.Key.place D.Directory O.Order cache.old }
     requires hands { vec_len leases.old + length asks.now ≤ vec_capacity leases.old }
     requires room { vec_len happenings.old + length asks.now ≤ vec_capacity happenings.old }
-    ensures good { Good K.Key.sameness K.Key.place D.Directory O.Order cache.new }
-    ensures goes { Served K.Key.sameness D.Directory O.Order happenings.old.items cache.old (in_hand leases.old slab.old) asks.now happenings.new.items cache.new (in_hand leases.new slab.new) }
+    ensures goes { Served happenings.old.items cache.old (in_hand leases.old slab.old) asks.now happenings.new.items cache.new (in_hand leases.new slab.new) }
     ensures most { vec_len leases.new ≤ vec_len leases.old + length asks.now }
     ensures count { vec_len happenings.new ≡ vec_len happenings.old + length asks.now }
     ensures capacity { vec_capacity happenings.new ≡ vec_capacity happenings.old }
@@ -40,11 +37,10 @@ pub(crate) fn settle<K: Key, D: Directory<K>, O: Order>(
     leases: &mut Vec<Lease>,
     happenings: &mut Vec<Happening<K>>,
 )
-    requires good { Good K.Key.sameness K.Key.place D.Directory O.Order cache.old }
-    requires room { vec_len happenings.old + vec_len leases.old ≤ vec_capacity happenings.old }
-    ensures good { Good K.Key.sameness K.Key.place D.Directory O.Order cache.new }
-    ensures goes { (bytes : List ℕ) → Served K.Key.sameness D.Directory O.Order happenings.old.items cache.old (in_hand leases.old bytes) (tries leases.old.items) happenings.new.items cache.new (in_hand leases.new bytes) }
+    requires { vec_len happenings.old + vec_len leases.old ≤ vec_capacity happenings.old }
+    ensures { (bytes : List ℕ) → Served happenings.old.items cache.old (in_hand leases.old bytes) (tries leases.old.items) happenings.new.items cache.new (in_hand leases.new bytes) }
 {
+    // It goes by a count, and not by the leases: each is taken out as it is tried, and a declined one joins at the end.
     for tried in 0..leases.len() {
         let happening = give_back(cache, leases, 0);
         happenings.push_reserved(happening);

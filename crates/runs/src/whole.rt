@@ -10,6 +10,7 @@ use keys::Key;
 use orders::Order;
 use std::alloc::Global;
 
+// A pair has this shape too, but a refusal is read by its name.
 /// A run that was not made for want of room: no call was made, and the parts are handed back.
 #[derive(Drop)]
 pub struct NoRoom<D, O> {
@@ -29,12 +30,11 @@ pub struct Finished<K, D, O> {
 fn has_room<K: Key>(asks: usize, leases: &Vec<Lease>, happenings: &Vec<Happening<K>>) -> bool
     ensures { result ≡ roomy asks leases.now happenings.now }
 {
-    if leases.capacity() - leases.len() < asks {
-        return false;
-    }
-    happenings.capacity() - happenings.len() >= asks + (leases.len() + asks)
+    leases.capacity() - leases.len() >= asks
+        && happenings.capacity() - happenings.len() >= asks + (leases.len() + asks)
 }
 
+// Directory, order, mark and chunk come one by one, as for a new cache: a struct of them would be filled only to be taken apart.
 /// Makes a cache of its parts, does all that is asked, and at the end tries to give back each lease in hand. `leases` are those in hand,
 /// of other caches at first; each accepted lease is added, and what is left there is declined by this cache: none, if none was handed in.
 /// `happenings` gains one entry for each ask and one for each lease that is tried. Nothing is allocated: where the two lists might not have
@@ -49,10 +49,8 @@ pub fn run_in<K: Key, D: Directory<K>, O: Order>(
     leases: &mut Vec<Lease>,
     happenings: &mut Vec<Happening<K>>,
 ) -> Result<(D, O), NoRoom<D, O>>
-    requires directory { D.Directory.valid K.Key.sameness K.Key.place directory }
-    requires order { O.Order.valid order }
     ensures room { is_ok result ≡ roomy (length asks.now) leases.old happenings.old }
-    ensures ended { Ended K.Key.sameness K.Key.place D.Directory O.Order mark chunk asks.now (scene directory order (in_hand leases.old slab.old) happenings.old.items) result (in_hand leases.new slab.new) happenings.new.items }
+    ensures ended { Ended K.Key.sameness D.Directory O.Order mark chunk asks.now (scene directory order (in_hand leases.old slab.old) happenings.old.items) result (in_hand leases.new slab.new) happenings.new.items }
 {
     if !has_room(asks.len(), leases, happenings) {
         return Err(NoRoom { directory, order });
@@ -74,9 +72,7 @@ pub fn run<K: Key, D: Directory<K>, O: Order>(
     asks: &[Ask<K>],
     leases: &mut Vec<Lease>,
 ) -> Result<Finished<K, D, O>, NoRoom<D, O>>
-    requires directory { D.Directory.valid K.Key.sameness K.Key.place directory }
-    requires order { O.Order.valid order }
-    ensures { Finishes K.Key.sameness K.Key.place D.Directory O.Order mark chunk asks.now (scene directory order (in_hand leases.old slab.old) []) result (in_hand leases.new slab.new) }
+    ensures { Finishes K.Key.sameness D.Directory O.Order mark chunk asks.now (scene directory order (in_hand leases.old slab.old) []) result (in_hand leases.new slab.new) }
 {
     if leases.reserve(asks.len()).is_err() {
         return Err(NoRoom { directory, order });
@@ -85,7 +81,7 @@ pub fn run<K: Key, D: Directory<K>, O: Order>(
     let Ok(mut happenings) = Vec::with_capacity(heap, most) else {
         return Err(NoRoom { directory, order });
     };
-    match run_in(
+    let (directory, order) = run_in(
         directory,
         order,
         mark,
@@ -94,12 +90,10 @@ pub fn run<K: Key, D: Directory<K>, O: Order>(
         asks,
         leases,
         &mut happenings,
-    ) {
-        Ok((directory, order)) => Ok(Finished {
-            directory,
-            order,
-            happenings,
-        }),
-        Err(refused) => Err(refused),
-    }
+    )?;
+    Ok(Finished {
+        directory,
+        order,
+        happenings,
+    })
 }

@@ -7,7 +7,7 @@ mod tests {
     use std::process::Abort;
     use std::test::Fail;
     use traces::{
-        Fault, FaultKind, Header, ReadError, Row, Trace, check as check_trace, read_trace,
+        Fault, FaultKind, Header, Row, Trace, TraceError, check as check_trace, read_trace,
         write_fault, write_trace,
     };
 
@@ -210,8 +210,8 @@ mod tests {
     fn printed_faults(rt: HostRuntime) -> Result<(), Fail> {
         match read_trace(rt.alloc(), b"slots\n2\nkey cost\nA 0\n") {
             Ok(_) => Err(Fail::new("a cost of 0")),
-            Err(ReadError::Memory) => Err(Fail::new("no memory")),
-            Err(ReadError::Found(fault)) => {
+            Err(TraceError::Memory) => Err(Fail::new("no memory")),
+            Err(TraceError::Found(fault)) => {
                 let mut out = [b'x'; 38];
                 assert_eq!(rt;
                     write_fault(fault, &mut out[0..37]),

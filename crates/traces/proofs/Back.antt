@@ -1,5 +1,5 @@
 -- What is written reads back.
-use Rattle.std.proofs.Common.{◌≡◌, ℕ, ◌+◌, ◌^◌, ◌<◌, ◌≤◌, List, [], ◌∷◌, ◌++◌, map, length, take, drop, sym, refl, ap, ◌∙◌, subst, ⊎_elim, append_assoc, arith}
+use Rattle.std.proofs.Common.{◌≡◌, ℕ, ◌+◌, ◌^◌, ◌<◌, ◌≤◌, List, [], ◌∷◌, ◌++◌, map, length, take, drop, Ok, Err, Result, MatchResult, inr, sym, refl, ap, ◌∙◌, subst, ⊎_elim, append_assoc, arith}
 use Rattle.std.specs.List.{flat_map, AllByRecursion}
 use Rattle.std.specs.Str.Parse.{digits_value}
 use Rattle.std.specs.Char.{digit_value}
@@ -17,7 +17,9 @@ use Rattle.traces.specs.Forms.{Digit, Fits, radix_of, most_of, low_of, high_of}
 use Rattle.traces.specs.Layout.{row_of, title, names_of}
 use Rattle.traces.specs.Tables.{glyph_of, numeral_of, placed}
 use Rattle.traces.specs.Rendering.{row_text, rows_text, head_text, trace_text, Fit}
-use Rattle.traces.specs.Words.{Pair, pair_text, Says, ReadsBack, Written}
+use Rattle.traces.specs.declared.faults.Fault.{Fault}
+use Rattle.traces.specs.Reports.{Printed, Cramped}
+use Rattle.traces.specs.Words.{Pair, pair_text, Says, ReadsBack, Written, Declined}
 use Rattle.traces.proofs.Laid.{PairsAre, Laid, laid_says}
 use Rattle.traces.proofs.Words.{radix_most}
 use Rattle.traces.proofs.Writing.{numeral_some, numeral_len, trace_parts}
@@ -144,3 +146,10 @@ back_again slots rows before after n fit count bytes =
           (sym (ap (take n) bytes ∙ take_at (trace_text slots rows) (drop (0 + length (trace_text slots rows)) before) n (sym count)))
           (reads_back slots rows fit);
     }
+
+-- what a write of a trace that fits answers
+pub written_back : (slots : ℕ) (rows : List Row) (before after : List ℕ) (r : Result ℕ Fault) → Fit slots rows
+    → MatchResult r (λ n. Printed (trace_text slots rows) before after n) (λ f. Cramped (trace_text slots rows) before after f)
+    → MatchResult r (λ n. Written slots rows before after n) (λ f. Declined slots rows before after f)
+written_back slots rows before after (Ok n) fit h = back_again slots rows before after n fit h.count h.bytes
+written_back slots rows before after (Err f) fit h = (inr (fit, h.room, h.told), h.same)

@@ -1,10 +1,9 @@
 -- How a text is cut.
-use Rattle.std.proofs.Common.{◌≡◌, ℕ, suc, ◌+◌, ◌-◌, ◌<◌, ◌≤◌, true, false, cond, eqb, ltb, ◌⊎◌, List, [], ◌∷◌, length, get_or, take, drop, sym, refl, ap, ◌∙◌, subst, ⊎_elim, add-one, arith}
-use native.Mathlib.Nat.{sub-zero}
-use Rattle.std.proofs.lemmas.Bool.{cond-true, cond-false, eq-eqb, ne_eqb, lt-ltb, ltb-true}
+use Rattle.std.specs.List.{position, position_or_len}
+use Rattle.std.proofs.Common.{◌≡◌, ℕ, suc, ◌+◌, ◌<◌, ◌≤◌, true, false, cond, eqb, ltb, ◌⊎◌, List, [], ◌∷◌, length, take, drop, not, Some, None, Option, MatchOption, sym, refl, ap, ◌∙◌, subst, ⊎_elim, add-one, arith}
+use Rattle.std.proofs.lemmas.Bool.{cond-true, cond-false, cases_lt, le-ltb, lt-ltb, ltb-true}
 use Rattle.std.proofs.lemmas.Bool.Decides.{nat_tests}
-use Rattle.std.proofs.lemmas.List.{at_drop_more, length-take-le, take_rest}
-use Rattle.traces.specs.Layout.{left, right}
+use Rattle.std.proofs.lemmas.List.{length-take-le}
 use Rattle.traces.specs.Cut.{line_of, before, cut, upto, Begins}
 
 pub upto_le : (b : ℕ) (xs : List ℕ) → upto b xs ≤ length xs
@@ -12,12 +11,23 @@ upto_le b [] = omega arith
 upto_le b (x ∷ xs) =
     elim (eqb x b) as (λ t. cond t 0 (suc (upto b xs)) ≤ suc (length xs)) [ true ↦ omega arith | false ↦ omega (arith, upto_le b xs) ]
 
--- a search's turn
-pub upto_here : (b : ℕ) (xs : List ℕ) (i : ℕ) → i < length xs → get_or xs i 0 ≡ b → upto b (drop i xs) ≡ 0
-upto_here b xs i h e = at_drop_more (upto b) xs i 0 h ∙ cond-true (eqb (get_or xs i 0) b) 0 _ (eq-eqb _ _ e)
+-- what a search for a byte finds
+upto_is : (b : ℕ) (xs : List ℕ) → position_or_len (λ x. eqb x b) xs ≡ upto b xs
+upto_is b [] = refl
+upto_is b (x ∷ xs) = elim (eqb x b) as (λ t. cond (not t) (1 + position_or_len (λ y. eqb y b) xs) 0 ≡ cond t 0 (suc (upto b xs))) [ true ↦ refl | false ↦ omega (arith, upto_is b xs) ]
 
-pub upto_more : (b : ℕ) (xs : List ℕ) (i : ℕ) → i < length xs → (get_or xs i 0 ≡ b → ⊥) → upto b (drop i xs) ≡ suc (upto b (drop (i + 1) xs))
-upto_more b xs i h e = at_drop_more (upto b) xs i 0 h ∙ cond-false (eqb (get_or xs i 0) b) 0 _ (ne_eqb _ _ e)
+pub upto_found : (b : ℕ) (xs : List ℕ) (r : Option ℕ) → r ≡ position (λ x. eqb x b) xs → MatchOption r (upto b xs ≡ length xs) (λ i. (i ≡ upto b xs) × (i < length xs))
+upto_found b xs r e =
+    ⊎_elim
+    (λ (h : upto b xs < length xs). rw (e ∙ found h) (upto_is b xs, omega (arith, upto_is b xs)))
+    (λ (h : length xs ≤ upto b xs). rw (e ∙ missed h) (omega (arith, upto_le b xs)))
+    (cases_lt (upto b xs) (length xs))
+  where
+    found : upto b xs < length xs → position (λ x. eqb x b) xs ≡ Some (position_or_len (λ x. eqb x b) xs)
+    found h = cond-true (ltb (position_or_len (λ x. eqb x b) xs) (length xs)) _ _ (lt-ltb _ _ (omega (arith, upto_is b xs)))
+
+    missed : length xs ≤ upto b xs → position (λ x. eqb x b) xs ≡ None
+    missed h = cond-false (ltb (position_or_len (λ x. eqb x b) xs) (length xs)) _ _ (le-ltb _ _ (omega (arith, upto_is b xs)))
 
 ltb_suc : (m n : ℕ) → ltb (suc m) (suc n) ≡ ltb m n
 ltb_suc m n = grind (arith, nat_tests)
@@ -51,13 +61,6 @@ first_unsound (b ∷ bs) i e h s =
     (λ (z : i ≡ length (b ∷ bs)). absurd (omega (arith, ltb-true (upto 10 (b ∷ bs)) (length (b ∷ bs)) t.0)))
     (λ (z : 80 < i). absurd (omega (arith, t.1, length-take-le (upto 10 (b ∷ bs)) (b ∷ bs) (upto_le 10 (b ∷ bs)))))
     h
-
--- the parts that the code takes at the first space
-pub left_is : (b : List ℕ) (i : ℕ) → i ≡ upto 32 b → take (i - 0) b ≡ left b
-left_is b i e = ap (λ k. take k b) (sub-zero i ∙ e)
-
-pub right_is : (b : List ℕ) (i : ℕ) → i ≡ upto 32 b → take (length b - (i + 1)) (drop (i + 1) b) ≡ right b
-right_is b i e = take_rest b (i + 1) ∙ ap (λ k. drop k b) (add-one i ∙ ap suc e)
 
 pub cut_some : (bs : List ℕ) → 0 < length bs → 0 < length (cut bs)
 cut_some bs h = rw (cut_first bs h) (omega arith)

@@ -1,3 +1,4 @@
+pub mod Exits
 pub mod Numbers
 pub mod Laid
 pub mod Ranges
@@ -6,6 +7,7 @@ pub mod Faulty
 pub mod Reading
 pub mod Whole
 pub mod Writing
+pub mod Pages
 pub mod Fitting
 pub mod Words
 pub mod Back

@@ -4,8 +4,8 @@ use Rattle.traces.specs.declared.table.ColumnOrder.{ColumnOrder}
 use Rattle.traces.specs.declared.table.ColumnOrder.TheVariants.{KeyCost, CostKey}
 use Rattle.traces.specs.declared.faults.Fault.{Fault}
 use Rattle.traces.specs.declared.rows.Row.{Row}
-use Rattle.traces.specs.declared.faults.ReadError.{ReadError}
-use Rattle.traces.specs.declared.faults.ReadError.TheVariants.{Found, Memory}
+use Rattle.traces.specs.declared.faults.TraceError.{TraceError}
+use Rattle.traces.specs.declared.faults.TraceError.TheVariants.{Found, Memory}
 use Rattle.traces.specs.Cut.{Line, cut}
 use Rattle.traces.specs.Faults.{Least}
 use Rattle.traces.specs.Layout.{names_of, Wrong, Rows, First, Titles, GivesSlots, Names, order_named, order_among, Faulty, Keeps, IfFound, Heads}
@@ -67,6 +67,6 @@ module _ (bs : List ℕ) (slots : ℕ) (o : ColumnOrder) (rest : List Line) (h :
   pub faulty_rows : (f : Fault) → Least (Wrong o 4 rest) f → Least (Faulty bs) f
   faulty_rows f k = fault_in_rows bs f h.0 h.2 h.1 slots h.3 rest o h.4 k
 
-  pub read_fails : (e : ReadError) → Said bs → IfFound e (Least (Wrong o 4 rest)) → ReadFails bs e
+  pub read_fails : (e : TraceError) → Said bs → IfFound e (Least (Wrong o 4 rest)) → ReadFails bs e
   read_fails (Found f) said k = faulty_rows f k
   read_fails Memory said k = said

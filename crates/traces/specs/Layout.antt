@@ -1,5 +1,5 @@
 -- The layout of a trace: what each line is to be, and what may be wrong with it.
-use Rattle.std.specs.Prelude.{◌≡◌, ℕ, suc, ◌+◌, ◌<◌, ◌≤◌, true, cond, ◌⊎◌, List, [], ◌∷◌, length, take, drop, codes, ◌≢◌}
+use Rattle.std.specs.Prelude.{◌≡◌, ℕ, suc, ◌+◌, ◌<◌, ◌≤◌, true, cond, ◌⊎◌, List, [], ◌∷◌, length, take, drop, codes, Some, None, Ok, Err, Option, Result, ◌≢◌}
 use Rattle.std.specs.Str.Parse.{digits_value}
 use Rattle.std.specs.Str.{bytes_eq}
 use Rattle.traces.specs.declared.values.Column.{Column}
@@ -7,10 +7,11 @@ use Rattle.traces.specs.declared.values.Column.TheVariants.{Slots, Key, Cost}
 use Rattle.traces.specs.declared.table.ColumnOrder.{ColumnOrder}
 use Rattle.traces.specs.declared.table.ColumnOrder.TheVariants.{KeyCost, CostKey}
 use Rattle.traces.specs.declared.faults.Fault.{Fault}
-use Rattle.traces.specs.declared.faults.ReadError.{ReadError}
-use Rattle.traces.specs.declared.faults.ReadError.TheVariants.{Found, Memory}
+use Rattle.traces.specs.declared.faults.TraceError.{TraceError}
+use Rattle.traces.specs.declared.faults.ValuesFault.{ValuesFault}
+use Rattle.traces.specs.declared.faults.TraceError.TheVariants.{Found, Memory}
 use Rattle.traces.specs.declared.rows.Row.{Row}
-use Rattle.traces.specs.Faults.{line_fault, names_fault, shape_fault, value_fault, rows_fault, Least}
+use Rattle.traces.specs.Faults.{line_fault, names_fault, shape_fault, value_fault, rows_fault, Least, of_values}
 use Rattle.traces.specs.Cut.{Line, line_of, Sound, upto, cut}
 use Rattle.traces.specs.Forms.{Fits, radix_of}
 
@@ -171,6 +172,13 @@ abbrev pub Heads : List ℕ → ℕ → ColumnOrder → List Line → Type 0
 Heads bs slots o rest = (two : List Line) × (three : List Line) × First Titles (cut bs) two × First (λ l. GivesSlots l slots) two three × First (λ l. Names l o) three rest
 
 -- P of the fault, if it is one and not want of memory
-abbrev pub IfFound : ReadError → (Fault → Type 0) → Type 0
+abbrev pub IfFound : TraceError → (Fault → Type 0) → Type 0
 IfFound (Found f) P = P f
 IfFound Memory P = Unit {0}
+
+-- What reading one more row gives, from the lines of bs, of which the first is line n, to those of rest, of which the first is line m: none
+-- where no line is left, and else the row that the first line is, or the least fault.
+abbrev pub GivesRow : ColumnOrder → ℕ → List ℕ → ℕ → List ℕ → Option (Result Row ValuesFault) → Type 0
+GivesRow o n bs m rest None = length bs ≡ 0
+GivesRow o n bs m rest (Some (Ok r)) = LeadsRow o n bs rest r × (m ≡ n + 1)
+GivesRow o n bs m rest (Some (Err e)) = LeastFrom o n bs (of_values e)

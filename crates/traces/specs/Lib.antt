@@ -2,6 +2,7 @@ pub mod Cut
 pub mod Forms
 pub mod Faults
 pub mod Tables
+pub mod Pages
 pub mod Layout
 pub mod Rendering
 pub mod Words

@@ -1,10 +1,12 @@
 -- What a run over a trace tells: an outcome for each row, and the counts of the outcomes.
-use Rattle.std.specs.Prelude.{◌≡◌, ℕ, ◌+◌, Bool, true, ◌&&◌, List, [], ◌∷◌, ◌++◌, nat_le, nat_lt}
+use Rattle.std.specs.Prelude.{◌≡◌, ℕ, ◌+◌, ◌<◌, ◌≤◌, Bool, true, false, ◌&&◌, List, [], ◌∷◌, ◌++◌, nat_le, nat_lt}
 use Rattle.keys.specs.declared.region.RegionNumber.{RegionNumber}
 use Rattle.traces.specs.declared.outcomes.Counts.{Counts}
 use Rattle.traces.specs.declared.outcomes.Eviction.{Eviction}
 use Rattle.traces.specs.declared.outcomes.Outcome.{Outcome}
 use Rattle.traces.specs.declared.outcomes.Outcome.TheVariants.{Hit, Taken, Evicting}
+use Rattle.traces.specs.declared.report.NoteError.{NoteError}
+use Rattle.traces.specs.declared.report.NoteError.TheVariants.{ManyRows, HighCost, NoRoom}
 
 -- what a row costs
 abbrev pub cost_in : Outcome → ℕ
@@ -39,6 +41,12 @@ has_room len cap (Evicting c k) = nat_lt len cap
 -- a report of so many rows can note one more
 abbrev pub takes_row : ℕ → ℕ → ℕ → Outcome → Bool
 takes_row rows len cap o = nat_lt rows 2048 && (nat_le (cost_in o) 65280 && has_room len cap o)
+
+-- why it declines one
+abbrev pub Declines : ℕ → ℕ → ℕ → Outcome → NoteError → Type 0
+Declines rows len cap o ManyRows = 2048 ≤ rows
+Declines rows len cap o HighCost = 65280 < cost_in o
+Declines rows len cap o NoRoom = has_room len cap o ≡ false
 
 -- the counts of a whole run, after those of the rows before it
 abbrev pub tally : Counts → List Outcome → Counts

@@ -2,15 +2,23 @@
 use Rattle.std.specs.Prelude.{◌≡◌, ℕ, ◌+◌, ◌^◌, ◌<◌, ◌≤◌, List, [], ◌∷◌, ◌++◌, map, length, codes, slice_index_or}
 use Rattle.traces.specs.declared.faults.Fault.{Fault}
 use Rattle.std.specs.List.{flat_map}
+use Rattle.traces.specs.declared.text.Cell.{Cell}
+use Rattle.traces.specs.declared.text.Cell.TheVariants.{Decimal, Hexadecimal}
 use Rattle.traces.specs.Tables.{numeral_of, line_text, table_text}
 use Rattle.traces.specs.declared.table.ColumnOrder.TheVariants.{KeyCost}
 use Rattle.traces.specs.declared.rows.Row.{Row}
 use Rattle.traces.specs.Faults.{value_fault, rows_fault}
 use Rattle.traces.specs.Layout.{title, names_of, row_of}
 
--- a row's line
+-- a row's cells, and its line
+abbrev pub row_cells : Row → List Cell
+row_cells r = Hexadecimal r.key.number ∷ Decimal r.cost ∷ []
+
+abbrev pub row_values : Row → List (List ℕ)
+row_values r = numeral_of 16 r.key.number ∷ numeral_of 10 r.cost ∷ []
+
 unfoldable pub row_text : Row → List ℕ
-row_text r = line_text (numeral_of 16 r.key.number ∷ numeral_of 10 r.cost ∷ [])
+row_text r = line_text (row_values r)
 
 abbrev pub rows_text : List Row → List ℕ
 rows_text rows = flat_map row_text rows
@@ -20,9 +28,6 @@ unfoldable pub head_text : ℕ → List ℕ
 head_text slots = title ++ (10 ∷ (numeral_of 10 slots ++ (10 ∷ (names_of KeyCost ++ (10 ∷ [])))))
 
 -- a trace: the table of the slots, and the table of the rows
-abbrev pub row_values : Row → List (List ℕ)
-row_values r = numeral_of 16 r.key.number ∷ numeral_of 10 r.cost ∷ []
-
 unfoldable pub trace_text : ℕ → List Row → List ℕ
 trace_text slots rows = table_text (codes "slots" ∷ []) ((numeral_of 10 slots ∷ []) ∷ []) ++ table_text (codes "key" ∷ codes "cost" ∷ []) (map row_values rows)
 

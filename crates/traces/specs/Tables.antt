@@ -38,8 +38,8 @@ line_text [] = 10 ∷ []
 line_text (v ∷ vs) = values_text v vs
 
 -- a line of cells
-abbrev pub cells_text : Cell → List Cell → List ℕ
-cells_text c cs = line_text (map cell_text (c ∷ cs))
+abbrev pub cells_text : List Cell → List ℕ
+cells_text cs = line_text (map cell_text cs)
 
 -- each cell after a space
 abbrev pub spaced : Cell → List ℕ
@@ -47,6 +47,15 @@ spaced c = 32 ∷ cell_text c
 
 abbrev pub spaced_text : List Cell → List ℕ
 spaced_text cs = flat_map spaced cs
+
+-- cells with one space between
+abbrev pub joined_text : List Cell → List ℕ
+joined_text [] = []
+joined_text (c ∷ cs) = cell_text c ++ spaced_text cs
+
+-- a line for each row, by the cells of a row
+abbrev pub lines_text : {R : Type 0} → (R → List Cell) → List R → List ℕ
+lines_text cells rows = flat_map (λ r. cells_text (cells r)) rows
 
 -- the names, and then each row
 abbrev pub table_text : List (List ℕ) → List (List (List ℕ)) → List ℕ

@@ -5,8 +5,8 @@ use Rattle.traces.specs.declared.values.Column.TheVariants.{Slots}
 use Rattle.traces.specs.declared.table.ColumnOrder.{ColumnOrder}
 use Rattle.traces.specs.declared.table.ColumnOrder.TheVariants.{KeyCost, CostKey}
 use Rattle.traces.specs.declared.faults.Fault.{Fault}
-use Rattle.traces.specs.declared.faults.ReadError.{ReadError}
-use Rattle.traces.specs.declared.faults.ReadError.TheVariants.{Found, Memory}
+use Rattle.traces.specs.declared.faults.TraceError.{TraceError}
+use Rattle.traces.specs.declared.faults.TraceError.TheVariants.{Found, Memory}
 use Rattle.traces.specs.declared.rows.Row.{Row}
 use Rattle.traces.specs.Faults.{room_fault, Least}
 use Rattle.traces.specs.Forms.{reading}
@@ -55,7 +55,7 @@ abbrev pub Said : List ℕ → Type 0
 Said bs = (slots : ℕ) × (rows : List Row) × Says bs slots rows
 
 -- why a text is not read: its least fault, or want of memory for a trace that it does say
-abbrev pub ReadFails : List ℕ → ReadError → Type 0
+abbrev pub ReadFails : List ℕ → TraceError → Type 0
 ReadFails bs (Found f) = Least (Faulty bs) f
 ReadFails bs Memory = Said bs
 

@@ -1,9 +1,9 @@
 //! What may be wrong with a trace: a fault of each layer, which passes upward by `?` (lines, table, values, cache), and
 //! the fault that a user is told.
 ghost use Rattle.std.specs.Prelude.{◌≡◌};
-ghost use Rattle.traces.specs.Faults.{number_of, layer_of, of_values, cache_fault};
+ghost use Rattle.traces.specs.Faults.{number_of, layer_of, fault_of, of_lines, of_table, of_values, cache_fault};
 ghost use Rattle.traces.specs.Tables.{layer_name};
-ghost use Rattle.traces.specs.declared.faults.ReadError.TheVariants.{Found, Memory};
+ghost use Rattle.traces.specs.declared.faults.TraceError.TheVariants.{Found, Memory};
 ghost use Rattle.traces.specs.declared.faults.TableFault.TheVariants.{Lines};
 ghost use Rattle.traces.specs.declared.faults.ValuesFault.TheVariants.{Table};
 
@@ -40,6 +40,7 @@ pub enum Layer {
 }
 
 impl Layer {
+    // Not by `Display`: tables are bytes, and the contract names them, which no `write!` does.
     /// The name by which a layer is told.
     pub(crate) fn name(self) -> &'static [u8]
         ensures { result.now ≡ layer_name self }
@@ -55,6 +56,7 @@ impl Layer {
 }
 
 impl FaultKind {
+    // A number, since the format tells a kind by it.
     /// The number by which this kind is told.
     pub fn number(self) -> u8
         ensures { result ≡ number_of self }
@@ -92,6 +94,19 @@ pub struct Fault {
     pub column: usize,
 }
 
+impl Fault {
+    /// The fault of a whole line, which stands at its first byte.
+    pub(crate) fn of_line(kind: FaultKind, line: usize) -> Fault
+        ensures { result ≡ fault_of kind line 1 }
+    {
+        Fault {
+            kind,
+            line,
+            column: 1,
+        }
+    }
+}
+
 /// A line that is missing, too long or not ended.
 #[derive(Clone, Copy)]
 pub(crate) struct LinesFault {
@@ -121,9 +136,9 @@ pub struct RowFault {
     pub refusal: Refusal,
 }
 
-/// Why a trace is not read: its first fault, or want of memory.
+/// Why a trace is not read, or a run over it has no report: its first fault, or want of memory.
 #[derive(Clone, Copy, Debug, PartialEq)]
-pub enum ReadError {
+pub enum TraceError {
     Found(Fault),
     Memory,
 }
@@ -152,31 +167,33 @@ impl From<LinesFault> for ValuesFault {
     }
 }
 
+impl From<LinesFault> for Fault {
+    ghost from_gives = { λ e r. r ≡ of_lines e };
+
+    fn from(e: LinesFault) -> Fault {
+        Fault::of_line(FaultKind::Line, e.line)
+    }
+}
+
+impl From<TableFault> for Fault {
+    ghost from_gives = { λ e r. r ≡ of_table e };
+
+    fn from(e: TableFault) -> Fault {
+        match e {
+            TableFault::Lines(e) => Fault::from(e),
+            TableFault::Names { line } => Fault::of_line(FaultKind::Names, line),
+            TableFault::Shape { line } => Fault::of_line(FaultKind::Shape, line),
+            TableFault::Rows { line } => Fault::of_line(FaultKind::Rows, line),
+        }
+    }
+}
+
 impl From<ValuesFault> for Fault {
     ghost from_gives = { λ e r. r ≡ of_values e };
 
     fn from(e: ValuesFault) -> Fault {
         match e {
-            ValuesFault::Table(TableFault::Lines(LinesFault { line })) => Fault {
-                kind: FaultKind::Line,
-                line,
-                column: 1,
-            },
-            ValuesFault::Table(TableFault::Names { line }) => Fault {
-                kind: FaultKind::Names,
-                line,
-                column: 1,
-            },
-            ValuesFault::Table(TableFault::Shape { line }) => Fault {
-                kind: FaultKind::Shape,
-                line,
-                column: 1,
-            },
-            ValuesFault::Table(TableFault::Rows { line }) => Fault {
-                kind: FaultKind::Rows,
-                line,
-                column: 1,
-            },
+            ValuesFault::Table(e) => Fault::from(e),
             ValuesFault::Value { line, column } => Fault {
                 kind: FaultKind::Value,
                 line,
@@ -190,42 +207,46 @@ impl From<RowFault> for Fault {
     ghost from_gives = { λ e r. r ≡ cache_fault e.line e.refusal };
 
     fn from(e: RowFault) -> Fault {
-        Fault {
-            kind: FaultKind::Cache(e.refusal),
-            line: e.line,
-            column: 1,
-        }
+        Fault::of_line(FaultKind::Cache(e.refusal), e.line)
     }
 }
 
-impl From<Fault> for ReadError {
+impl From<Fault> for TraceError {
     ghost from_gives = { λ e r. r ≡ Found e };
 
-    fn from(e: Fault) -> ReadError {
-        ReadError::Found(e)
+    fn from(e: Fault) -> TraceError {
+        TraceError::Found(e)
     }
 }
 
-impl From<ValuesFault> for ReadError {
+impl From<ValuesFault> for TraceError {
     ghost from_gives = { λ e r. r ≡ Found (of_values e) };
 
-    fn from(e: ValuesFault) -> ReadError {
-        ReadError::Found(Fault::from(e))
+    fn from(e: ValuesFault) -> TraceError {
+        TraceError::Found(Fault::from(e))
     }
 }
 
-impl From<AllocError> for ReadError {
-    ghost from_gives = { λ _ r. r ≡ Memory };
+impl From<RowFault> for TraceError {
+    ghost from_gives = { λ e r. r ≡ Found (cache_fault e.line e.refusal) };
 
-    fn from(_e: AllocError) -> ReadError {
-        ReadError::Memory
+    fn from(e: RowFault) -> TraceError {
+        TraceError::Found(Fault::from(e))
     }
 }
 
-impl<T: Drop> From<AllocFailed<T>> for ReadError {
+impl From<AllocError> for TraceError {
     ghost from_gives = { λ _ r. r ≡ Memory };
 
-    fn from(_e: AllocFailed<T>) -> ReadError {
-        ReadError::Memory
+    fn from(_e: AllocError) -> TraceError {
+        TraceError::Memory
+    }
+}
+
+impl<T: Drop> From<AllocFailed<T>> for TraceError {
+    ghost from_gives = { λ _ r. r ≡ Memory };
+
+    fn from(_e: AllocFailed<T>) -> TraceError {
+        TraceError::Memory
     }
 }

@@ -1,25 +1,36 @@
 //! What is printed: the two tables of a report, or the table of a fault.
-ghost use Rattle.std.specs.Prelude.{◌≡◌, ◌+◌, ◌≤◌, length, MatchResult};
+ghost use Rattle.std.specs.Prelude.{◌≡◌, length, MatchResult};
 ghost use Rattle.traces.specs.Example.{ExampleReads, ExamplePrints};
-ghost use Rattle.traces.specs.Reports.{counts_cells, run_head, eviction_text, evictions_text, run_text, report_text, fault_rest, fault_text, Printed, Cramped};
-ghost use Rattle.traces.specs.Tables.{placed};
+ghost use Rattle.traces.specs.Reports.{counts_cells, eviction_cells, report_text, fault_cells, fault_text, Printed, Cramped};
 
-use crate::faults::{Fault, FaultKind};
+use crate::faults::Fault;
 use crate::outcomes::{Counts, Eviction};
+use crate::page::Page;
+use crate::printed::{Printable, write_text};
 use crate::report::Report;
-use crate::text::{Cell, line_len, put_line, put_text};
+use crate::text::{Cell, TableRow, line_len, rows_len};
 
-/// The counts of a report, in the order in which they are printed.
-fn count_cells(counts: Counts) -> [Cell; 4]
-    ensures { result ≡ counts_cells counts }
+/// The names of a report's first table, as a line.
+const COUNTS_NAMES: &[u8] = b"slots rows hits evictions paid\n";
+
+/// The names of a report's second table, as a line.
+const EVICTIONS_NAMES: &[u8] = b"row evicted\n";
+
+/// The names of a fault's table, as a line.
+const FAULT_NAMES: &[u8] = b"fault line column layer\n";
+
+/// The slots and the counts of a report, in the order of the names.
+fn counts_of(report: &Report) -> [Cell; 5]
+    ensures { result ≡ counts_cells report.now.slots report.now.counts }
 {
     let Counts {
         rows,
         hits,
         evictions,
         paid,
-    } = counts;
+    } = report.counts();
     [
+        Cell::Decimal(report.slots() as usize),
         Cell::Decimal(rows as usize),
         Cell::Decimal(hits as usize),
         Cell::Decimal(evictions as usize),
@@ -27,79 +38,63 @@ fn count_cells(counts: Counts) -> [Cell; 4]
     ]
 }
 
-/// How many bytes all of a report but its evictions takes.
-fn head_len(slots: u16, counts: Counts) -> usize
-    ensures is { result ≡ length (run_head slots counts) }
-    ensures short { result ≤ 637 }
-{
-    let rest = count_cells(counts);
-    // The two lines of names have 43 bytes.
-    line_len(Cell::Decimal(slots as usize), &rest) + 43
-}
+impl TableRow for Eviction {
+    ghost cells_of = { eviction_cells };
 
-/// Writes all of a report but its evictions, and answers the place after it.
-fn put_head(out: &mut [u8], slots: u16, counts: Counts) -> usize
-    requires { length (run_head slots counts) ≤ length out.old }
-    ensures after { result ≡ length (run_head slots counts) }
-    ensures wrote { out.new ≡ placed 0 (run_head slots counts) out.old }
-{
-    let rest = count_cells(counts);
-    let a = put_text(out, 0, b"slots rows hits evictions paid\n");
-    let b = put_line(out, a, Cell::Decimal(slots as usize), &rest);
-    put_text(out, b, b"row evicted\n")
-}
-
-/// How many bytes the evictions of a report take.
-fn evictions_len(evicted: &[Eviction]) -> usize
-    requires { length evicted.now ≤ 2048 }
-    ensures is { result ≡ length (evictions_text evicted.now) }
-    ensures short { result ≤ 1216512 }
-{
-    let mut total = 0;
-    for eviction in evicted {
-        total += line_len(
-            Cell::Decimal(eviction.row as usize),
-            &[Cell::Hexadecimal(eviction.key.number)],
-        );
+    fn cells(self) -> [Cell; 2] {
+        [
+            Cell::Decimal(self.row as usize),
+            Cell::Hexadecimal(self.key.number),
+        ]
     }
-    total
 }
 
-/// Writes an eviction's line.
-fn put_eviction(out: &mut [u8], at: usize, eviction: Eviction) -> usize
-    requires { at + length (eviction_text eviction) ≤ length out.old }
-    ensures after { result ≡ at + length (eviction_text eviction) }
-    ensures wrote { out.new ≡ placed at (eviction_text eviction) out.old }
-{
-    put_line(
-        out,
-        at,
-        Cell::Decimal(eviction.row as usize),
-        &[Cell::Hexadecimal(eviction.key.number)],
-    )
-}
+impl Printable for Report {
+    ghost text_of = { report_text };
 
-/// Writes the evictions' lines, and answers the place after them.
-fn put_evictions(out: &mut [u8], start: usize, evicted: &[Eviction]) -> usize
-    requires { start + length (evictions_text evicted.now) ≤ length out.old }
-    ensures after { result ≡ start + length (evictions_text evicted.now) }
-    ensures wrote { out.new ≡ placed start (evictions_text evicted.now) out.old }
-{
-    let mut at = start;
-    for eviction in evicted {
-        at = put_eviction(out, at, *eviction);
+    fn text_len(&self) -> usize {
+        let counts = counts_of(self);
+        COUNTS_NAMES.len() + line_len(&counts) + EVICTIONS_NAMES.len() + rows_len(self.evicted())
     }
-    at
+
+    fn put(&self, page: &mut Page<'_>) {
+        page.put_text(COUNTS_NAMES);
+        page.put_line(&counts_of(self));
+        page.put_text(EVICTIONS_NAMES);
+        page.put_rows(self.evicted());
+    }
+}
+
+/// The values of a fault, in the order of the names.
+fn fault_values(fault: Fault) -> [Cell; 4]
+    ensures { result ≡ fault_cells fault }
+{
+    [
+        Cell::Decimal(fault.kind.number() as usize),
+        Cell::Decimal(fault.line),
+        Cell::Decimal(fault.column),
+        Cell::Name(fault.kind.layer()),
+    ]
+}
+
+impl Printable for Fault {
+    ghost text_of = { fault_text };
+
+    fn text_len(&self) -> usize {
+        FAULT_NAMES.len() + line_len(&fault_values(*self))
+    }
+
+    fn put(&self, page: &mut Page<'_>) {
+        page.put_text(FAULT_NAMES);
+        page.put_line(&fault_values(*self));
+    }
 }
 
 /// How many bytes a report takes.
 pub fn report_len(report: &Report) -> usize
     ensures { result ≡ length (report_text report.now) }
 {
-    let slots = report.slots();
-    let counts = report.counts();
-    let evicted = report.evicted();
-    head_len(slots, counts) + evictions_len(evicted)
+    report.text_len()
 }
 
 /// Writes a report at the front of a buffer, and answers how many bytes it takes; or leaves the buffer as it was, and
@@ -109,39 +104,14 @@ pub fn write_report(report: &Report, out: &mut [u8]) -> Result<usize, Fault>
         (λ n. Printed (report_text report.now) out.old out.new n)
         (λ f. Cramped (report_text report.now) out.old out.new f) }
 {
-    let slots = report.slots();
-    let counts = report.counts();
-    let evicted = report.evicted();
-    if head_len(slots, counts) + evictions_len(evicted) > out.len() {
-        return Err(Fault {
-            kind: FaultKind::Room,
-            line: 0,
-            column: 0,
-        });
-    }
-    let at = put_head(out, slots, counts);
-    Ok(put_evictions(out, at, evicted))
-}
-
-/// The values of a fault after its number, in the order in which they are printed.
-fn fault_cells(fault: Fault) -> [Cell; 3]
-    ensures { result ≡ fault_rest fault }
-{
-    [
-        Cell::Decimal(fault.line),
-        Cell::Decimal(fault.column),
-        Cell::Name(fault.kind.layer()),
-    ]
+    write_text(report, out)
 }
 
 /// How many bytes a fault takes.
 pub fn fault_len(fault: Fault) -> usize
     ensures { result ≡ length (fault_text fault) }
 {
-    let number = Cell::Decimal(fault.kind.number() as usize);
-    let rest = fault_cells(fault);
-    // The line of names has 24 bytes.
-    line_len(number, &rest) + 24
+    fault.text_len()
 }
 
 /// Writes a fault at the front of a buffer, and answers how many bytes it takes; or leaves the buffer as it was, and
@@ -151,18 +121,7 @@ pub fn write_fault(fault: Fault, out: &mut [u8]) -> Result<usize, Fault>
         (λ n. Printed (fault_text fault) out.old out.new n)
         (λ f. Cramped (fault_text fault) out.old out.new f) }
 {
-    let number = Cell::Decimal(fault.kind.number() as usize);
-    let rest = fault_cells(fault);
-    // The line of names has 24 bytes.
-    if line_len(number, &rest) + 24 > out.len() {
-        return Err(Fault {
-            kind: FaultKind::Room,
-            line: 0,
-            column: 0,
-        });
-    }
-    let at = put_text(out, 0, b"fault line column layer\n");
-    Ok(put_line(out, at, number, &rest))
+    write_text(&fault, out)
 }
 
 /// The example of the documentation: its text says its rows, and the outcomes of its rows print as its report.

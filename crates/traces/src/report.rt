@@ -1,9 +1,21 @@
 //! The report of a run over a trace.
-ghost use Rattle.std.specs.Prelude.{◌≡◌, ◌+◌, ◌*◌, ◌≤◌, min, [], ◌++◌, length, IfOk, if◌then◌else◌, vec_len, vec_capacity};
-ghost use Rattle.traces.specs.Outcomes.{counted, leaving, no_counts, takes_row};
+ghost use Rattle.std.specs.Prelude.{◌≡◌, ◌+◌, ◌*◌, ◌≤◌, min, [], ◌++◌, length, is_ok, IfOk, IfErr, if◌then◌else◌, vec_len, vec_capacity};
+ghost use Rattle.traces.specs.Outcomes.{counted, leaving, no_counts, takes_row, Declines};
 
+use crate::limits::{MOST_COST, MOST_ROWS, MOST_SLOTS};
 use crate::outcomes::{Counts, Eviction, Outcome};
 use std::alloc::{AllocError, Global};
+
+/// Why a report declines an outcome.
+#[derive(Clone, Copy, Debug, PartialEq)]
+pub enum NoteError {
+    /// It has as many rows as a trace may have.
+    ManyRows,
+    /// The row costs more than a trace may say.
+    HighCost,
+    /// An eviction finds no room.
+    NoRoom,
+}
 
 /// The report of a run: at most 1,024 slots, at most 2,048 rows, no more hits and evictions than rows, an eviction in
 /// the list for each that is counted, and at most 65,280 paid for a row.
@@ -26,28 +38,31 @@ impl Report {
     {
         let evicted = Vec::with_capacity(heap, room)?;
         Ok(Report {
-            slots: slots.min(1024),
+            slots: slots.min(MOST_SLOTS),
             counts: Counts::none(),
             evicted,
         })
     }
 
-    /// Adds the outcome of one more row. Declines (answers false), and changes nothing, where there are 2,048 rows, the
-    /// row costs more than 65,280, or an eviction finds no room.
-    pub fn note(&mut self, outcome: Outcome) -> bool
-        ensures answer { result ≡ takes_row self.old.counts.rows (vec_len self.old.evicted) (vec_capacity self.old.evicted) outcome }
+    /// Adds the outcome of one more row, or declines it and changes nothing.
+    pub fn note(&mut self, outcome: Outcome) -> Result<(), NoteError>
+        ensures answer { is_ok result ≡ takes_row self.old.counts.rows (vec_len self.old.evicted) (vec_capacity self.old.evicted) outcome }
+        ensures reason { IfErr result (Declines self.old.counts.rows (vec_len self.old.evicted) (vec_capacity self.old.evicted) outcome) }
         ensures slots { self.new.slots ≡ self.old.slots }
         ensures room { vec_capacity self.new.evicted ≡ vec_capacity self.old.evicted }
-        ensures counts { self.new.counts ≡ (if result then counted self.old.counts outcome else self.old.counts) }
-        ensures evicted { self.new.evicted.items ≡ (if result then self.old.evicted.items ++ leaving (self.old.counts.rows + 1) outcome else self.old.evicted.items) }
+        ensures counts { self.new.counts ≡ (if is_ok result then counted self.old.counts outcome else self.old.counts) }
+        ensures evicted { self.new.evicted.items ≡ (if is_ok result then self.old.evicted.items ++ leaving (self.old.counts.rows + 1) outcome else self.old.evicted.items) }
     {
-        if self.counts.rows >= 2048 || outcome.cost() > 65280 {
-            return false;
+        if self.counts.rows >= MOST_ROWS {
+            return Err(NoteError::ManyRows);
+        }
+        if outcome.cost() > MOST_COST {
+            return Err(NoteError::HighCost);
         }
         let counts = self.counts.counting(outcome);
         if let Outcome::Evicting { key, .. } = outcome {
             if self.evicted.len() >= self.evicted.capacity() {
-                return false;
+                return Err(NoteError::NoRoom);
             }
             self.evicted.push_reserved(Eviction {
                 row: counts.rows,
@@ -55,7 +70,7 @@ impl Report {
             });
         }
         self.counts = counts;
-        true
+        Ok(())
     }
 
     /// How many slots the run had.

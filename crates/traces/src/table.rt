@@ -1,13 +1,16 @@
 //! The tables of a trace: lines of names, and the values of a line.
 ghost use Rattle.std.specs.Prelude.{◌≡◌, true, MatchOption, MatchResult, ◌≢◌};
 ghost use Rattle.traces.specs.Faults.{shape_fault, of_table};
-ghost use Rattle.traces.specs.Layout.{first_of, second_of, row_by, One, Two, Parts, title, names_of};
+ghost use Rattle.traces.specs.Layout.{first_of, second_of, row_by, One, Two, Parts, names_of};
 
 use crate::faults::TableFault;
-use crate::lines::position;
+use crate::lines::{Line, position};
 use crate::rows::Row;
 use crate::values::Column;
 use keys::RegionNumber;
+
+/// The name of the first table's one column.
+pub(crate) const TITLE: &[u8] = b"slots";
 
 /// Which names the rows' table gives to its columns.
 #[derive(Clone, Copy)]
@@ -17,21 +20,13 @@ pub(crate) enum ColumnOrder {
 }
 
 impl ColumnOrder {
-    pub(crate) fn first(self) -> Column
-        ensures { result ≡ first_of self }
+    /// The columns of a row, in their order.
+    pub(crate) fn columns(self) -> (Column, Column)
+        ensures { result ≡ (first_of self, second_of self) }
     {
         match self {
-            ColumnOrder::KeyCost => Column::Key,
-            ColumnOrder::CostKey => Column::Cost,
-        }
-    }
-
-    pub(crate) fn second(self) -> Column
-        ensures { result ≡ second_of self }
-    {
-        match self {
-            ColumnOrder::KeyCost => Column::Cost,
-            ColumnOrder::CostKey => Column::Key,
+            ColumnOrder::KeyCost => (Column::Key, Column::Cost),
+            ColumnOrder::CostKey => (Column::Cost, Column::Key),
         }
     }
 
@@ -54,36 +49,25 @@ pub(crate) fn is_one(text: &[u8]) -> bool
     ensures yes { result ≡ true → One text.now }
     ensures no { One text.now → result ≡ true }
 {
-    !text.is_empty() && position(text, b' ') == text.len()
+    !text.is_empty() && position(text, b' ').is_none()
 }
 
 /// The two values of a row.
-pub(crate) fn two(text: &[u8], number: usize) -> Result<(&[u8], &[u8]), TableFault>
+pub(crate) fn two(line: Line<'_>) -> Result<(&[u8], &[u8]), TableFault>
     ensures { MatchResult result
-        (λ p. Parts text.now p.0.now p.1.now)
-        (λ e. (Two text.now → ⊥) × (of_table e ≡ shape_fault number)) }
+        (λ p. Parts line.entry.text.now p.0.now p.1.now)
+        (λ e. (Two line.entry.text.now → ⊥) × (of_table e ≡ shape_fault line.entry.number)) }
 {
-    let space = position(text, b' ');
-    if space == text.len() {
+    let Line { number, text } = line;
+    let Some(space) = position(text, b' ') else {
         return Err(TableFault::Shape { line: number });
-    }
-    let first = &text[0..space];
+    };
+    let first = &text[..space];
     let second = &text[space + 1..];
     if !is_one(first) || !is_one(second) {
         return Err(TableFault::Shape { line: number });
     }
     Ok((first, second))
-}
-
-/// Whether a line has the name of the first table.
-pub(crate) fn is_title(names: &[u8]) -> bool
-    ensures yes { result ≡ true → names.now ≡ title }
-    ensures no { names.now ≡ title → result ≡ true }
-{
-    match names {
-        b"slots" => true,
-        _ => false,
-    }
 }
 
 /// The order of the names of the rows' table, if a line has them.

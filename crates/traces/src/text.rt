@@ -1,18 +1,29 @@
-//! Lines of tables, written into a buffer: values with one space between, and LF.
-ghost use Rattle.std.specs.Prelude.{◌≡◌, ◌+◌, ◌*◌, ◌^◌, ◌<◌, ◌≤◌, length};
-ghost use Rattle.traces.specs.Tables.{glyph_of, numeral_of, cell_text, spaced_text, cells_text, placed};
+//! Lines of tables: values with one space between, and LF. How many bytes they have.
+ghost use Rattle.std.specs.Prelude.{◌≡◌, ◌*◌, ◌^◌, ◌<◌, ◌≤◌, List, length};
+ghost use Rattle.traces.specs.declared.text.Cell.{Cell as OneCell};
+ghost use Rattle.traces.specs.Tables.{glyph_of, numeral_of, cell_text, cells_text, lines_text};
 
 use crate::faults::Layer;
 
 /// A value of a table.
-#[derive(Clone, Copy)]
+#[derive(Clone, Copy, Debug, PartialEq)]
 pub(crate) enum Cell {
     Decimal(usize),
     Hexadecimal(u32),
     Name(Layer),
 }
 
-fn glyph(d: usize) -> u8
+/// A row of a table, as a line of two values.
+pub(crate) trait TableRow: Copy {
+    ghost cells_of: { Self → List OneCell };
+
+    /// The values, in the order of the names.
+    fn cells(self) -> [Cell; 2]
+        ensures { result ≡ cells_of self };
+}
+
+/// A digit of base 16 as a byte: 0 to 9, then A to F. (`char::from_digit` answers small letters.)
+pub(crate) fn glyph(d: usize) -> u8
     requires { d < 16 }
     ensures { result ≡ glyph_of d }
 {
@@ -57,12 +68,14 @@ fn cell_len(cell: Cell) -> usize
     }
 }
 
-/// How many bytes values have, each after a space.
-fn spaced_len(cells: &[Cell]) -> usize
-    requires { length cells.now ≤ 8 }
-    ensures is { result ≡ length (spaced_text cells.now) }
-    ensures short { result ≤ 528 }
+/// How many bytes a line of values has: each has a space or the LF after it.
+pub(crate) fn line_len(cells: &[Cell]) -> usize
+    requires some { 0 < length cells.now }
+    requires few { length cells.now ≤ 8 }
+    ensures is { result ≡ length (cells_text cells.now) }
+    ensures short { result ≤ 66 * length cells.now }
 {
+    // A loop, since of a chain's `sum` the bound on the whole is not proved.
     let mut total = 0;
     for cell in cells {
         total += cell_len(*cell) + 1;
@@ -70,77 +83,16 @@ fn spaced_len(cells: &[Cell]) -> usize
     total
 }
 
-/// How many bytes a line of values has, LF included.
-pub(crate) fn line_len(first: Cell, rest: &[Cell]) -> usize
-    requires { length rest.now ≤ 8 }
-    ensures is { result ≡ length (cells_text first rest.now) }
-    ensures short { result ≤ 594 }
+/// How many bytes the lines of a table's rows have.
+pub(crate) fn rows_len<R: TableRow>(rows: &[R]) -> usize
+    requires { length rows.now ≤ 2048 }
+    ensures is { result ≡ length (lines_text R.cells_of rows.now) }
+    ensures short { result ≤ 132 * length rows.now }
 {
-    cell_len(first) + spaced_len(rest) + 1
-}
-
-/// Writes bytes from place `at` on, and answers the place after them.
-pub(crate) fn put_text(out: &mut [u8], at: usize, text: &[u8]) -> usize
-    requires { at + length text.now ≤ length out.old }
-    ensures after { result ≡ at + length text.now }
-    ensures wrote { out.new ≡ placed at text.now out.old }
-{
-    let end = at + text.len();
-    out[at..end].copy_from_slice(text);
-    end
-}
-
-/// Writes a number from place `at` on, and answers the place after it.
-fn put_number(out: &mut [u8], at: usize, n: usize, base: usize) -> usize
-    requires low { 2 ≤ base }
-    requires high { base ≤ 16 }
-    requires room { at + length (numeral_of base n) ≤ length out.old }
-    ensures after { result ≡ at + length (numeral_of base n) }
-    ensures wrote { out.new ≡ placed at (numeral_of base n) out.old }
-{
-    if n < base {
-        out[at] = glyph(n);
-        return at + 1;
+    // A loop, since of a chain's `sum` the bound on the whole is not proved.
+    let mut total = 0;
+    for row in rows {
+        total += line_len(&row.cells());
     }
-    let last = put_number(out, at, n / base, base);
-    out[last] = glyph(n % base);
-    last + 1
-}
-
-/// Writes a value from place `at` on, and answers the place after it.
-fn put_cell(out: &mut [u8], at: usize, cell: Cell) -> usize
-    requires { at + length (cell_text cell) ≤ length out.old }
-    ensures after { result ≡ at + length (cell_text cell) }
-    ensures wrote { out.new ≡ placed at (cell_text cell) out.old }
-{
-    match cell {
-        Cell::Decimal(n) => put_number(out, at, n, 10),
-        Cell::Hexadecimal(n) => put_number(out, at, n as usize, 16),
-        Cell::Name(layer) => put_text(out, at, layer.name()),
-    }
-}
-
-/// Writes values from place `start` on, each after a space, and answers the place after them.
-fn put_spaced(out: &mut [u8], start: usize, cells: &[Cell]) -> usize
-    requires { start + length (spaced_text cells.now) ≤ length out.old }
-    ensures after { result ≡ start + length (spaced_text cells.now) }
-    ensures wrote { out.new ≡ placed start (spaced_text cells.now) out.old }
-{
-    let mut at = start;
-    for cell in cells {
-        let value = put_text(out, at, b" ");
-        at = put_cell(out, value, *cell);
-    }
-    at
-}
-
-/// Writes a line of values from place `at` on, and answers the place after it.
-pub(crate) fn put_line(out: &mut [u8], at: usize, first: Cell, rest: &[Cell]) -> usize
-    requires { at + length (cells_text first rest.now) ≤ length out.old }
-    ensures after { result ≡ at + length (cells_text first rest.now) }
-    ensures wrote { out.new ≡ placed at (cells_text first rest.now) out.old }
-{
-    let a = put_cell(out, at, first);
-    let b = put_spaced(out, a, rest);
-    put_text(out, b, b"\n")
+    total
 }

@@ -4,6 +4,8 @@ ghost use Rattle.std.specs.Char.{digit_value};
 ghost use Rattle.std.specs.List.{AllByRecursion};
 ghost use Rattle.traces.specs.Forms.{Digit, Fits, Writes, IsValue, worth, reading};
 
+use crate::limits::{MOST_COST, MOST_SLOTS};
+
 /// A column of a trace's tables.
 #[derive(Clone, Copy)]
 pub(crate) enum Column {
@@ -12,7 +14,7 @@ pub(crate) enum Column {
     Cost,
 }
 
-/// The hexadecimal digit that a byte writes: 0 to 9, or A to F.
+/// The hexadecimal digit that a byte writes: 0 to 9, or A to F. (`char::to_digit` would also read small letters.)
 fn digit(b: u8) -> Option<u32>
     ensures is { result ≡ worth b }
     ensures told { MatchOption result (Digit 16 b → ⊥) (λ d. Digit 16 b × (d ≡ digit_value b)) }
@@ -24,7 +26,7 @@ fn digit(b: u8) -> Option<u32>
     }
 }
 
-/// The number that a text of digits writes.
+/// The number that a text of digits writes. `from_str_radix` would also read a sign and small letters.
 fn numeral(text: &[u8], radix: u32) -> Option<u32>
     requires base { radix ≤ 16 }
     requires short { length text.now ≤ 8 }
@@ -47,9 +49,9 @@ pub(crate) fn value_in(column: Column, text: &[u8]) -> Option<u32>
     ensures told { MatchOption result (Fits column text.now → ⊥) (λ n. IsValue column text.now n) }
 {
     let (radix, most, low, high) = match column {
-        Column::Slots => (10, 4, 0, 1024),
+        Column::Slots => (10, 4, 0, MOST_SLOTS as u32),
         Column::Key => (16, 8, 0, u32::MAX),
-        Column::Cost => (10, 5, 1, 65280),
+        Column::Cost => (10, 5, 1, MOST_COST),
     };
     if text.is_empty() || text.len() > most {
         return None;

@@ -1,2 +1,1 @@
-mod Collapses
-mod Packs
+pub mod Meshes

@@ -1,2 +1,5 @@
+pub mod Few
 pub mod Logs
 pub mod Meshes
+pub mod Outcomes
+pub mod Shifts

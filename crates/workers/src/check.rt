@@ -1,5 +1,4 @@
 // The check at the end of a day.
-ghost use Rattle.std.specs.Prelude.{◌≡◌};
 ghost use Rattle.workers.specs.Meshes.{triangles_of, Pointed};
 
 use crate::region::Region;
@@ -8,10 +7,5 @@ use crate::region::Region;
 pub fn pointed_at(region: &Region, vertices: &[u8]) -> Option<u8>
     ensures { Pointed (triangles_of region.now) vertices.now result }
 {
-    for v in vertices {
-        if region.points_at(*v) {
-            return Some(*v);
-        }
-    }
-    None
+    vertices.iter().copied().find(|v| region.points_at(*v))
 }

@@ -1,54 +1,65 @@
-// What workers did and what came of it, for the reader.
-use crate::region::{Region, Triangle};
+// What workers did, with what came of it, for the reader.
+use crate::outcome::Outcome;
+use crate::triangle::Edge;
 use keys::RegionNumber;
 use std::fmt;
 
 /// Who worked.
-#[derive(Clone, Copy)]
+#[derive(Clone, Copy, Debug, PartialEq, Eq)]
 pub enum Worker {
     One,
     Two,
 }
 
 /// What a worker did with a region.
-#[derive(Clone, Copy)]
+#[derive(Clone, Copy, Debug, PartialEq, Eq)]
 pub enum Deed {
     /// At this cost.
     Keep(u32),
     Lease,
-    /// An edge collapse under a lease: the vertex that stays, and the one that goes.
-    Collapse(u8, u8),
+    /// An edge collapse under a lease.
+    Collapse(Edge),
     GiveBack,
     Drop,
     State,
     Get,
 }
 
-/// What came of it.
-#[derive(Clone, Copy)]
-pub enum Outcome {
-    Done,
-    /// By the refusal's number.
-    Refused(u8),
-    NoEdge,
-    Taken,
-    Refreshed,
-    Evicted(RegionNumber),
-    Absent,
-    Waiting,
-    Out,
-    Found(Region),
-    Missing,
-    Unreadable,
-}
-
 /// One deed of a worker, with what came of it.
-#[derive(Clone, Copy)]
+#[derive(Clone, Copy, Debug, PartialEq)]
 pub struct Entry {
     pub worker: Worker,
     pub deed: Deed,
     pub region: RegionNumber,
     pub outcome: Outcome,
+}
+
+impl Entry {
+    pub(crate) fn new(
+        worker: Worker,
+        deed: Deed,
+        region: RegionNumber,
+        outcome: impl Into<Outcome>,
+    ) -> Entry {
+        Entry {
+            worker,
+            deed,
+            region,
+            outcome: outcome.into(),
+        }
+    }
+}
+
+// Fills the unused places of a log. It is not derived, since a region's number has no default.
+impl Default for Entry {
+    fn default() -> Entry {
+        Entry {
+            worker: Worker::One,
+            deed: Deed::State,
+            region: RegionNumber { number: 0 },
+            outcome: Outcome::Absent,
+        }
+    }
 }
 
 impl fmt::Display for Worker {
@@ -62,13 +73,10 @@ impl fmt::Display for Worker {
 
 impl fmt::Display for Deed {
     fn fmt<W: fmt::Write>(&self, f: &mut fmt::Formatter<W>) -> fmt::Result {
-        match *self {
+        match self {
             Deed::Keep(cost) => write!(f, "keep, at cost {cost}"),
             Deed::Lease => write!(f, "lease"),
-            Deed::Collapse(keep, remove) => write!(
-                f,
-                "collapse of edge {keep}-{remove} into {keep}"
-            ),
+            Deed::Collapse(edge) => write!(f, "collapse of edge {edge} into {}", edge.keep),
             Deed::GiveBack => write!(f, "give back"),
             Deed::Drop => write!(f, "drop"),
             Deed::State => write!(f, "state"),
@@ -77,53 +85,12 @@ impl fmt::Display for Deed {
     }
 }
 
-impl fmt::Display for Triangle {
-    fn fmt<W: fmt::Write>(&self, f: &mut fmt::Formatter<W>) -> fmt::Result {
-        let a = self.a;
-        let b = self.b;
-        let c = self.c;
-        write!(f, "({a} {b} {c})")
-    }
-}
-
-impl fmt::Display for Region {
-    fn fmt<W: fmt::Write>(&self, f: &mut fmt::Formatter<W>) -> fmt::Result {
-        write!(f, "triangles")?;
-        for t in self.triangles() {
-            write!(f, " {t}")?;
-        }
-        Ok(())
-    }
-}
-
-impl fmt::Display for Outcome {
-    fn fmt<W: fmt::Write>(&self, f: &mut fmt::Formatter<W>) -> fmt::Result {
-        match *self {
-            Outcome::Done => write!(f, "done"),
-            Outcome::Refused(number) => write!(f, "refused, number {number}"),
-            Outcome::NoEdge => write!(f, "failed, the region has no such edge"),
-            Outcome::Taken => write!(f, "taken"),
-            Outcome::Refreshed => write!(f, "refreshed"),
-            Outcome::Evicted(key) => {
-                let number = key.number;
-                write!(f, "taken, and region {number} evicted")
-            }
-            Outcome::Absent => write!(f, "absent"),
-            Outcome::Waiting => write!(f, "waiting"),
-            Outcome::Out => write!(f, "out on lease"),
-            Outcome::Found(region) => write!(f, "{region}"),
-            Outcome::Missing => write!(f, "missing"),
-            Outcome::Unreadable => write!(f, "bytes that are no region"),
-        }
-    }
-}
-
 impl fmt::Display for Entry {
     fn fmt<W: fmt::Write>(&self, f: &mut fmt::Formatter<W>) -> fmt::Result {
-        let worker = self.worker;
-        let number = self.region.number;
-        let deed = self.deed;
-        let outcome = self.outcome;
-        write!(f, "{worker}, region {number}: {deed}: {outcome}")
+        write!(
+            f,
+            "{}, region {}: {}: {}",
+            self.worker, self.region.number, self.deed, self.outcome
+        )
     }
 }

@@ -3,7 +3,6 @@ ghost use Rattle.std.specs.Prelude.{◌≡◌, ◌<◌, true};
 ghost use Rattle.promises.specs.State.{known};
 ghost use Rattle.promises.specs.Events.{leases, writes, gives_back};
 ghost use Rattle.cache.specs.Leases.{ticket_of, ticketed, Known, refused_by, HandsBack};
-ghost use Rattle.cache.specs.Whole.{Good, Makes};
 
 use crate::bytes::fill;
 use crate::cache::Cache;
@@ -12,26 +11,22 @@ use crate::lease::Lease;
 use directories::Directory;
 use keys::Key;
 use orders::Order;
-use promises::{Lending, Refusal};
+use promises::{Lending, Refusal, Ticket};
 
 impl<K: Key, D: Directory<K>, O: Order> Cache<K, D, O> {
+    ghost use Rattle.cache.specs.Whole.{Makes};
+
     // Takes a waiting region out of the order, and marks it lent.
     pub(super) fn lend(&mut self, key: &K) -> Result<Lease, Refusal>
-        requires { Good K.Key.sameness K.Key.place D.Directory O.Order self.old }
-        ensures makes { Makes K.Key.sameness K.Key.place D.Directory O.Order self.old (leases key.now (ticketed result)) self.new }
+        ensures step { Makes self.old (leases key.now (ticketed result)) self.new }
         ensures known { Known self.new.table result }
     {
-        let Some(slot) = self.find(key) else {
-            return Err(Refusal::NotHeld);
-        };
-        if self.is_out(slot) {
-            return Err(Refusal::OnLease);
-        }
+        let slot = self.waiting_slot(key)?;
         self.order.withdraw(slot as u32);
         self.table.records[slot].lending = Lending::Lent;
+        let mark = self.table.mark;
         Ok(Lease {
-            mark: self.table.mark,
-            slot,
+            ticket: Ticket { mark, slot },
         })
     }
 
@@ -42,8 +37,7 @@ impl<K: Key, D: Directory<K>, O: Order> Cache<K, D, O> {
         value: &[u8],
         slab: &mut [u8],
     ) -> Result<(), Refusal>
-        requires { Good K.Key.sameness K.Key.place D.Directory O.Order self.old }
-        ensures { Makes K.Key.sameness K.Key.place D.Directory O.Order self.old (writes (ticket_of lease.now) value.now slab.old result slab.new) self.new }
+        ensures { Makes self.old (writes (ticket_of lease.now) value.now slab.old result slab.new) self.new }
     {
         if value.len() > self.table.chunk {
             return Err(Refusal::LongValue);
@@ -54,7 +48,7 @@ impl<K: Key, D: Directory<K>, O: Order> Cache<K, D, O> {
         if !self.knows(lease) {
             return Err(Refusal::UnknownLease);
         }
-        let slot = lease.slot;
+        let slot = lease.ticket.slot;
         fill(slab, slot * self.table.chunk, value);
         self.table.records[slot].len = value.len();
         Ok(())
@@ -62,8 +56,7 @@ impl<K: Key, D: Directory<K>, O: Order> Cache<K, D, O> {
 
     // Marks a region that is out idle, and places it at its full cost.
     pub(super) fn take_back(&mut self, lease: Lease) -> Result<(), Declined<Lease>>
-        requires { Good K.Key.sameness K.Key.place D.Directory O.Order self.old }
-        ensures makes { Makes K.Key.sameness K.Key.place D.Directory O.Order self.old (gives_back (ticket_of lease) (refused_by result)) self.new }
+        ensures step { Makes self.old (gives_back (ticket_of lease) (refused_by result)) self.new }
         ensures token { HandsBack lease result }
     {
         if !self.knows(&lease) {
@@ -72,7 +65,8 @@ impl<K: Key, D: Directory<K>, O: Order> Cache<K, D, O> {
                 token: lease,
             });
         }
-        let Lease { mark: _, slot } = lease;
+        let Lease { ticket } = lease;
+        let slot = ticket.slot;
         let cost = self.table.records[slot].cost;
         self.order.place(slot as u32, cost);
         self.table.records[slot].lending = Lending::Idle;
@@ -81,10 +75,9 @@ impl<K: Key, D: Directory<K>, O: Order> Cache<K, D, O> {
 
     // Whether the lease is of this cache, and its slot is out.
     fn knows(&self, lease: &Lease) -> bool
-        requires { Good K.Key.sameness K.Key.place D.Directory O.Order self.now }
         ensures answer { result ≡ known self.now.table (ticket_of lease.now) }
-        ensures below { result ≡ true → lease.now.slot < 1024 }
+        ensures below { result ≡ true → lease.now.ticket.slot < 1024 }
     {
-        lease.mark == self.table.mark && self.is_out(lease.slot)
+        lease.ticket.mark == self.table.mark && self.is_out(lease.ticket.slot)
     }
 }

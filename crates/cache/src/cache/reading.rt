@@ -1,9 +1,9 @@
 // Getting a region's value.
-ghost use Rattle.std.specs.Prelude.{◌≡◌, ◌<◌};
+ghost use Rattle.std.specs.Prelude.{◌≡◌, true, is_some};
+ghost use Rattle.directories.specs.Meaning.{key_at};
 ghost use Rattle.promises.specs.Events.{gets};
 ghost use Rattle.promises.specs.Steps.{touched};
 ghost use Rattle.cache.specs.Parts.{seen, Lies};
-ghost use Rattle.cache.specs.Whole.{state_of, Good, Valid, Makes};
 
 use crate::cache::Cache;
 use directories::Directory;
@@ -12,10 +12,11 @@ use orders::Order;
 use promises::Refusal;
 
 impl<K: Key, D: Directory<K>, O: Order> Cache<K, D, O> {
+    ghost use Rattle.cache.specs.Whole.{state_of, Makes};
+
     // Finds a value in the slab, and touches its region.
     pub(super) fn fetch<'s>(&mut self, key: &K, slab: &'s [u8]) -> Result<Option<&'s [u8]>, Refusal>
-        requires { Good K.Key.sameness K.Key.place D.Directory O.Order self.old }
-        ensures makes { Makes K.Key.sameness K.Key.place D.Directory O.Order self.old (gets key.now slab.now (seen slab.entry result)) self.new }
+        ensures step { Makes self.old (gets key.now slab.now (seen slab.entry result)) self.new }
         ensures lies { Lies slab.entry result }
     {
         if self.is_short(slab.len()) {
@@ -32,10 +33,8 @@ impl<K: Key, D: Directory<K>, O: Order> Cache<K, D, O> {
 
     // Makes a waiting region the newest, with its full cost for its credit.
     fn touch(&mut self, slot: usize)
-        requires good { Good K.Key.sameness K.Key.place D.Directory O.Order self.old }
-        requires below { slot < 1024 }
-        ensures valid { Valid K.Key.sameness K.Key.place D.Directory O.Order self.new }
-        ensures after { state_of D.Directory O.Order self.new ≡ touched (state_of D.Directory O.Order self.old) slot }
+        requires { is_some (key_at (state_of self.old).directory slot) ≡ true }
+        ensures { state_of self.new ≡ touched (state_of self.old) slot }
     {
         if self.is_out(slot) {
             return;

@@ -21,9 +21,8 @@ loop-leaver-preserved g c =
     let after = ap (λ (k : OrderMeaning). length k.waiting) c.expel.ensures.after in
     let len = c.push_reserved.ensures.len in
     let cap = c.push_reserved.ensures.capacity in (
-      c.expel.ensures.still,
-      ap emptied c.expel.ensures.after ∙ inv.1,
-      drain_more m m₀ m' (vec_items c.loop-leaver.gone) (vec_items c.push_reserved.new.self) c.in-Some.leaver inv.2 first c.expel.ensures.after
+      ap emptied c.expel.ensures.after ∙ inv.0,
+      drain_more m m₀ m' (vec_items c.loop-leaver.gone) (vec_items c.push_reserved.new.self) c.in-Some.leaver inv.1 first c.expel.ensures.after
           c.push_reserved.ensures.items,
-      omega (arith, inv.3),
+      omega (arith, inv.2),
     )

@@ -7,8 +7,7 @@ abbrev pub invariant-loop-leaver : goal.invariant-loop-leaver
 invariant-loop-leaver g l =
     let m = g.O.Order.meaning l.order in
     let m₀ = g.O.Order.meaning l.initial.order in
-    (g.O.Order.valid l.order)
-    × (emptied m ≡ emptied m₀)
+    (emptied m ≡ emptied m₀)
     × (vec_items l.gone ++ departures m ≡ departures m₀)
     × (vec_len l.gone + length m.waiting ≤ vec_capacity l.gone)
 

@@ -11,16 +11,15 @@ drain-requires g c =
     let made = c.in_ok-gone.ensures in
     let most = all_placed_length (emptied m) rows in
     let all : length (g.O.Order.meaning c.place_all.new.order).waiting ≡ length (all_placed (emptied m) rows).waiting =
-    ap (λ (k : OrderMeaning). length k.waiting) (c.place_all.ensures.after ∙ ap (λ (k : OrderMeaning). all_placed k rows) c.empty.ensures.after) in
-    record { kept = c.place_all.ensures.still; bare = made.items; room = omega (arith, made.len, made.capacity) }
+    ap (λ (k : OrderMeaning). length k.waiting) (c.place_all.ensures ∙ ap (λ (k : OrderMeaning). all_placed k rows) c.empty.ensures.after) in
+    record { bare = made.items; room = omega (arith, made.len, made.capacity) }
 
 pub returns : goal.returns
 returns g c =
     let m : OrderMeaning = g.O.Order.meaning c.args.order.now in
     let rows = c.args.rows.now in
-    let placed = c.place_all.ensures.after ∙ ap (λ (k : OrderMeaning). all_placed k rows) c.empty.ensures.after in
+    let placed = c.place_all.ensures ∙ ap (λ (k : OrderMeaning). all_placed k rows) c.empty.ensures.after in
     record {
-      still = c.drain.ensures.still;
       after = c.drain.ensures.after ∙ ap emptied placed ∙ all_placed_emptied (emptied m) rows;
       answer = c.drain.ensures.answer ∙ ap departures placed;
     }

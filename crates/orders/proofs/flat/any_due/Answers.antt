@@ -1,12 +1,11 @@
-use Rattle.std.proofs.Common.{sym}
-use Rattle.orders.specs.FlatTables.{due_more, due_all, due_here}
+use Rattle.std.proofs.Common.{◌==◌, ◌∙◌, rules, tests}
+use Rattle.std.proofs.lemmas.Iterator.{YieldsList-from_slice}
+use Rattle.std.proofs.lemmas.Iterator.Search.{any_from_yields_List}
+use Rattle.orders.specs.declared.Entry.{Entry}
+use Rattle.orders.specs.FlatTables.{due_any}
 use Rattle.orders.proofs.flat.any_due.Goals as goal
 
-pub returns-then-e-eq0 : goal.returns-then-e-eq0
-returns-then-e-eq0 c = sym (due_here c.args.entries.now c.loop-e.e-index c.loop-e-test.true c.if-e-eq0.true)
-
-pub loop-e-preserved : goal.loop-e-preserved
-loop-e-preserved c = due_more c.args.entries.now c.loop-e.e-index c.loop-e-test.true c.loop-e.invariant c.if-e-eq0.false
-
 pub returns : goal.returns
-returns c = sym (due_all c.args.entries.now c.loop-e.e-index c.loop-e-test.false c.loop-e.invariant)
+returns c =
+    let xs = c.args.entries.now in
+    any_from_yields_List (λ (y : Entry). y.credit == 0) _ _ _ c.any.ensures.ran (YieldsList-from_slice xs cc) (λ x b q k. search (rules, tests)) ∙ due_any xs

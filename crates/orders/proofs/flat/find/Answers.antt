@@ -1,8 +1,21 @@
-use Rattle.orders.specs.FlatTables.{waits_more, waits_all}
+use Rattle.std.proofs.Common.{◌≡◌, ◌≢◌, ℕ, ◌<◌, List, Some, None, Option, length, MatchOption, arith, rules, tests}
+use Rattle.std.specs.List.{HoldsAt, AllWithin}
+use Rattle.std.proofs.lemmas.Iterator.{IsFirst-from_position, YieldsList-from_slice}
+use Rattle.orders.specs.declared.Entry.{Entry}
+use Rattle.orders.specs.Flat.{entry}
+use Rattle.orders.specs.FlatTable.{Found}
+use Rattle.orders.specs.FlatTables.{waits_none}
 use Rattle.orders.proofs.flat.find.Goals as goal
 
-pub loop-i-preserved : goal.loop-i-preserved
-loop-i-preserved c = waits_more c.args.slot c.args.entries.now c.loop-i.i c.loop-i-test.true c.loop-i.invariant c.if-e-slot.false
+told : (s : ℕ) (xs : List Entry) (r : Option ℕ) →
+    MatchOption r (AllWithin (λ (y : Entry). y.slot ≢ s) xs 0 (length xs)) (λ i. (i < length xs) × HoldsAt (λ (y : Entry). y.slot ≡ s) xs i × AllWithin (λ (y : Entry). y.slot ≢ s) xs 0 i) →
+    Found xs s r
+told s xs None h = waits_none s xs (λ k l. h k (entry 0 0) (omega arith) l)
+told s xs (Some i) h = (h.0, h.1 (entry 0 0))
 
 pub returns : goal.returns
-returns c = waits_all c.args.slot c.args.entries.now c.loop-i.i c.loop-i-test.false c.loop-i.invariant
+returns c =
+    let xs = c.args.entries.now in
+    let s = c.args.slot in
+    told s xs c.position.result (IsFirst-from_position _ _ c.position.result (λ (y : Entry). y.slot ≡ s) (λ (y : Entry). y.slot ≢ s) c.position.ensures.ran
+    (YieldsList-from_slice xs cc) (λ x q k. search (rules, tests)) (λ x q k. search (rules, tests)))

@@ -1,19 +1,20 @@
-use Rattle.std.proofs.Common.{refl, inl, inr, ⊎_elim, arith}
-use native.Mathlib.Nat.{sub-zero}
+use Rattle.std.proofs.Common.{refl, inl, inr, arith}
 use Rattle.std.proofs.lemmas.List.{take_rest, length-drop, length-take-le}
 use Rattle.traces.proofs.Cuts.{first_whole, first_unsound}
 use Rattle.traces.proofs.lines.first_line.Goals as goal
 
-pub returns-then-end-rest : goal.returns-then-end-rest
-returns-then-end-rest c =
-    (refl, first_unsound c.args.rest.now c.position-end.result c.position-end.ensures.is (⊎_elim (λ e. inl e) (λ e. inr e.1) c.then-end-rest.either))
+pub returns-in_err-end : goal.returns-in_err-end
+returns-in_err-end c = rw c.from_residual.ensures (first_unsound c.args.text.now _ refl (inl c.in_err-end.ensures))
+
+pub returns-then-end-gt-LINE_BYTES : goal.returns-then-end-gt-LINE_BYTES
+returns-then-end-gt-LINE_BYTES c = first_unsound c.args.text.now c.in_ok-end.end c.in_ok-end.ensures.0 (inr c.if-end-gt-LINE_BYTES.true)
 
 pub returns : goal.returns
 returns c =
-    let s = c.args.rest.now in
-    let i = c.position-end.result in
-    simp (sub-zero, take_rest) (
-      first_whole s i c.position-end.ensures.is (omega (arith, c.position-end.ensures.within, c.if-end-rest.false)),
-      omega (arith, length-take-le i s c.position-end.ensures.within, c.if-end-gt-LINE_BYTES.false),
-      simp length-drop (omega (arith, c.position-end.ensures.within, c.if-end-rest.false)),
+    let s = c.args.text.now in
+    let i = c.in_ok-end.end in
+    simp take_rest (
+      first_whole s i c.in_ok-end.ensures.0 c.in_ok-end.ensures.1,
+      omega (arith, length-take-le i s (omega (arith, c.in_ok-end.ensures.1))),
+      simp length-drop (omega (arith, c.in_ok-end.ensures.1)),
     )

@@ -1,14 +1,11 @@
 use Rattle.std.proofs.Common.{◌≤◌, length, sym, ap, arith}
 use native.Mathlib.Nat.{pow-le-pow_left}
 use Rattle.traces.specs.Tables.{numeral_of}
-use Rattle.traces.proofs.Writing.{numeral_small, length_numeral_step, numeral_len, div_less}
+use Rattle.traces.proofs.Writing.{numeral_small, length_numeral_step, numeral_len}
 use Rattle.traces.proofs.text.+number_len.Goals as goal
 
-pub number_len-requires : goal.number_len-requires
-number_len-requires t c = (omega (arith, div_less c.args.base c.args.n c.requires c.if-n-base.false, c.decreases), c.requires)
-
-pub returns-then-n-base : goal.returns-then-n-base
-returns-then-n-base t c = record { is = sym (ap length (numeral_small c.args.base c.args.n c.requires c.if-n-base.true)); short = omega arith }
+pub returns-then-n-base-clause-is : goal.returns-then-n-base-clause-is
+returns-then-n-base-clause-is t c = sym (ap length (numeral_small c.args.base c.args.n c.requires c.if-n-base.true))
 
 pub returns-else-n-base : goal.returns-else-n-base
 returns-else-n-base t c =

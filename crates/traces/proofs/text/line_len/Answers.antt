@@ -1,10 +1,9 @@
-use Rattle.std.proofs.Common.{arith}
+use Rattle.std.proofs.Common.{length, ap, arith}
+use Rattle.std.proofs.lemmas.List.{take_all}
+use Rattle.traces.specs.Tables.{spaced_text}
 use Rattle.traces.proofs.Writing.{length_line}
 use Rattle.traces.proofs.text.line_len.Goals as goal
 
-pub returns : goal.returns
-returns c =
-    record {
-      is = omega (arith, length_line c.args.first c.args.rest.now, c.cell_len.ensures.is, c.spaced_len.ensures.is);
-      short = omega (arith, c.cell_len.ensures.short, c.spaced_len.ensures.short);
-    }
+pub returns-clause-is : goal.returns-clause-is
+returns-clause-is c =
+    omega (arith, c.loop-cell.invariant.0, ap (λ t. length (spaced_text t)) (take_all c.loop-cell.cell-index c.args.cells.now c.loop-cell-test.false), length_line c.args.cells.now c.requires.some)

@@ -1,18 +1,7 @@
 use Rattle.std.proofs.Common.{◌+◌, ◌*◌, ◌^◌, ◌<◌, get_or, arith}
-use Rattle.std.proofs.ByRecursion.{All-get_or}
-use Rattle.std.proofs.lemmas.List.{take_all}
 use Rattle.traces.specs.Forms.{Digit}
-use Rattle.traces.proofs.Numbers.{wider, more_digits, more_value, more_fits}
+use Rattle.traces.proofs.Numbers.{more_digits, more_value, more_fits}
 use Rattle.traces.proofs.values.numeral.Goals as goal
-
-pub returns-in_err-d : goal.returns-in_err-d
-returns-in_err-d c =
-    rw c.from_residual.ensures
-    (λ all. c.in_err-d.ensures.told (wider _ _ c.requires.base (All-get_or (Digit c.args.radix) c.args.text.now c.loop-b.b-index 0 c.loop-b-test.true all)))
-
-pub returns-then-d-radix : goal.returns-then-d-radix
-returns-then-d-radix c =
-    λ all. omega (arith, (All-get_or (Digit c.args.radix) c.args.text.now c.loop-b.b-index 0 c.loop-b-test.true all).0, c.in_ok-d.ensures.told.1)
 
 this : (c : goal.Else-d-radix) → Digit c.args.radix (get_or c.args.text.now c.loop-b.b-index 0)
 this c = (omega (arith, c.in_ok-d.ensures.told.1), c.in_ok-d.ensures.told.0.1)
@@ -35,6 +24,3 @@ loop-b-preserved c =
       more_digits c.args.radix c.loop-b.n c.in_ok-d.d c.loop-b.b-index c.args.text.now c.loop-b.invariant.0 c.loop-b.invariant.1 c.loop-b-test.true here told.1,
       more_value c.args.radix c.loop-b.n c.in_ok-d.d c.loop-b.b-index c.args.text.now c.loop-b.invariant.0 c.loop-b.invariant.1 c.loop-b-test.true here told.1,
     )
-
-pub returns : goal.returns
-returns c = rw (take_all c.loop-b.b-index c.args.text.now c.loop-b-test.false) at c.loop-b.invariant

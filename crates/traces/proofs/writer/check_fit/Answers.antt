@@ -8,6 +8,6 @@ returns-then-row-lt1 c =
     least_cost c.args.slots c.args.rows.now c.loop-i.i (omega arith) (omega arith) c.loop-i.invariant.1 c.loop-i.invariant.2 c.loop-i.invariant.0 _ c.key_len-width.ensures.is
     (elim c.then-row-lt1.branch [ then-row-lt1-via-then-row-lt1 w ↦ inl w.if-row-lt1.true | then-row-lt1-via-else-row-lt1+then-row-gt-MOST_COST w ↦ inr w.if-row-gt-MOST_COST.true ])
 
-pub returns-then-i-ge-MOST_ROWS : goal.returns-then-i-ge-MOST_ROWS
-returns-then-i-ge-MOST_ROWS c =
-    least_past c.args.slots c.args.rows.now c.loop-i.i (omega arith) (omega arith) c.loop-i.invariant.1 c.loop-i.invariant.2 c.loop-i.invariant.0 (omega arith) (omega arith) (omega arith)
+pub returns-then-i : goal.returns-then-i
+returns-then-i c =
+    rw c.of_line.ensures (least_past c.args.slots c.args.rows.now c.loop-i.i (omega arith) (omega arith) c.loop-i.invariant.1 c.loop-i.invariant.2 c.loop-i.invariant.0 (omega arith) (omega arith) (omega arith))

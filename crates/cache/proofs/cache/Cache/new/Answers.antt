@@ -6,12 +6,11 @@ use Rattle.cache.specs.Whole.{making}
 use Rattle.cache.proofs.States.{new_made}
 use Rattle.cache.proofs.cache.Cache.new.Goals as goal
 
-pub returns : goal.returns
-returns g c =
-    let e = new_made (g.D.Directory.meaning c.args.directory) _ (g.O.Order.meaning c.args.order) _ c.args.mark c.args.chunk _ _ _ _ _
-    c.empty.ensures.after c.size.ensures c.min.ensures c.empty-2.ensures.means c.min-2.ensures c.max.ensures c.blank_records-records.ensures in
-    record {
-      good = record { directory = c.empty-2.ensures.kept; order = c.empty.ensures.still; sound = subst (λ x. Sound g.K.Key.sameness x) (sym e) (sound_made g.K.Key.sameness (making g.D.Directory g.O.Order c.args.directory c.args.order c.args.mark c.args.chunk)) };
-      made = e;
-      promise = every_line g.K.Key.sameness g.K.Key.place g.met.K.Key.laws _;
-    }
+pub invariant_of-result : goal.invariant_of-result
+invariant_of-result g c =
+    let same_as_made = new_made (g.D.Directory.meaning c.args.directory) _ (g.O.Order.meaning c.args.order) _ c.args.mark c.args.chunk _ _ _ _
+    c.empty.ensures.after c.size.ensures c.min.ensures c.empty-2.ensures.means c.clamp.ensures c.blank_records-records.ensures in
+    record { sound = subst (λ x. Sound g.K.Key.sameness x) (sym same_as_made) (sound_made g.K.Key.sameness (making g.D.Directory g.O.Order c.args.directory c.args.order c.args.mark c.args.chunk)) }
+
+pub returns-clause-promise : goal.returns-clause-promise
+returns-clause-promise g c = every_line g.K.Key.sameness g.K.Key.place g.met.K.Key.laws _

@@ -1,14 +1,47 @@
-use Rattle.directories.proofs.Entries.{held_still}
+use Rattle.std.proofs.Common.{◌≡◌, ◌<◌, ◌≤◌, true, length, is_some, None, refl, arith, rules}
+use borrow.Author.Rules.{scaled_Fits}
+use Rattle.directories.specs.Tables.{Located}
+use Rattle.directories.proofs.Entries.{enter_full, enter_there}
+use Rattle.directories.proofs.Changes.{put}
+use Rattle.directories.proofs.hashed.HashedDirectoryDirectory.enter.Goals.{then-known-via-then-known, then-known-via-else-known+then-self-eq0}
 use Rattle.directories.proofs.hashed.HashedDirectoryDirectory.enter.Goals as goal
 
-pub returns-in-None : goal.returns-in-None
-returns-in-None g c = record {
-  kept = held_still c.requires c.enter_in.auto.cells c.in-None.ensures.kept;
-  means = c.in-None.ensures.means c.args.self.now.capacity;
-}
+pub returns-then-known : goal.returns-then-known
+returns-then-known g c =
+    let s = c.args.self.now in
+    record {
+      means = elim c.then-known.branch [
+        | then-known-via-then-known w ↦
+            let known : is_some c.search.result ≡ true = search rules in
+            enter_there g.met.K.Key.laws s.held.sound c.args.key s.capacity c.search.result c.search.ensures known
+        | then-known-via-else-known+then-self-eq0 w ↦ enter_full g.met.K.Key.laws s.held.sound c.args.key s.capacity w.if-self-eq0.true
+      ];
+      rest = refl;
+    }
 
-pub returns-in-Some : goal.returns-in-Some
-returns-in-Some g c = record {
-  kept = held_still c.requires c.enter_in.auto.cells c.in-Some.ensures.kept;
-  means = c.in-Some.ensures.means c.args.self.now.capacity;
-}
+pub offset_bounds-cells-slot : goal.offset_bounds-cells-slot
+offset_bounds-cells-slot g c =
+    let long : c.args.self.now.size ≤ length c.args.self.now.cells.now = c.args.self.now.held.sound.within in
+    let l : c.top-slot.result < length c.args.self.now.cells.now = omega (arith, c.top-slot.ensures.below) in
+    scaled_Fits c.top-slot.result (length c.args.self.now.cells.now) _ l (search rules)
+
+pub invariant_of-self : goal.invariant_of-self
+invariant_of-self g c =
+    let s = c.args.self.now in
+    let absent : c.search.result ≡ None = search rules in
+    let none : Located g.K.Key.sameness c.args.self.now.cells.now c.args.self.now.size c.args.key None = rw absent at c.search.ensures in
+    record {
+      held = (put g.met.K.Key.laws s.held c.args.key c.top-slot.result c.bucket-bucket.result c.relink-next.result c.before-before.result c.relink-next.new.cells c.index-cells-slot.result
+          (omega (arith, c.if-self-eq0.false)) c.top-slot.ensures.value none c.bucket-bucket.ensures.value c.bucket-bucket.ensures.below c.before-before.ensures.last
+          c.relink-next.auto.cells c.relink-next.ensures.led c.relink-next.ensures.leads).0;
+    }
+
+pub returns : goal.returns
+returns g c =
+    let s = c.args.self.now in
+    let absent : c.search.result ≡ None = search rules in
+    let none : Located g.K.Key.sameness c.args.self.now.cells.now c.args.self.now.size c.args.key None = rw absent at c.search.ensures in
+    let done = put g.met.K.Key.laws s.held c.args.key c.top-slot.result c.bucket-bucket.result c.relink-next.result c.before-before.result c.relink-next.new.cells c.index-cells-slot.result
+    (omega (arith, c.if-self-eq0.false)) c.top-slot.ensures.value none c.bucket-bucket.ensures.value c.bucket-bucket.ensures.below c.before-before.ensures.last
+    c.relink-next.auto.cells c.relink-next.ensures.led c.relink-next.ensures.leads in
+    record { means = done.1; rest = done.2 }

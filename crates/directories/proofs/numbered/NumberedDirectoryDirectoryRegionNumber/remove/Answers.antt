@@ -1,42 +1,41 @@
-use Rattle.std.proofs.Common.{◌<◌, ◌≤◌, get_or, is_some, Some, None, refl, ap, arith}
-use Rattle.directories.proofs.Registers.{few, found, there, nowhere, rank_room, rank_out, means_out, means_stay}
+use Rattle.std.proofs.Common.{◌<◌, length, is_some, None, sym, ap, ◌∙◌, arith}
+use Rattle.directories.specs.Meaning.{freed}
+use Rattle.directories.specs.Numbers.{register}
+use Rattle.directories.specs.Numbered.{numbered_meaning}
+use Rattle.directories.proofs.Registers.{rank_out, refilled, bounds}
 use Rattle.directories.proofs.numbered.NumberedDirectoryDirectoryRegionNumber.remove.Goals as goal
 
-pub returns-then-r-ge-NUMBERS : goal.returns-then-r-ge-NUMBERS
-returns-then-r-ge-NUMBERS c =
-    let k = c.args.key.now in
-    record {
-      kept = c.requires;
-      answer = ap is_some (found c.requires k None
-          (nowhere c.requires k (λ l. absurd (omega (arith, c.if-r-ge-NUMBERS.true)))));
-      means = means_stay c.requires k (λ l. absurd (omega (arith, c.if-r-ge-NUMBERS.true)));
-    }
+pub offset_bounds-deref_mut-slot : goal.offset_bounds-deref_mut-slot
+offset_bounds-deref_mut-slot c = let b = bounds c.args.self.now.ranked c.args.key.now c.in-Some.slot (sym c.in-Some.ensures) in omega arith
 
-pub bounds-self-left : goal.bounds-self-left
-bounds-self-left c =
-    let room : c.args.self.now.left < c.args.self.now.size = rank_room c.requires c.args.key.now c.if-r-ge-NUMBERS.false c.if-s-self.true in
-    let fw : c.args.self.now.size ≤ 1024 = few c.requires in
-    omega arith
+pub bounds-deref_mut-slot : goal.bounds-deref_mut-slot
+bounds-deref_mut-slot c = rw c.deref_mut.ensures.value ((bounds c.args.self.now.ranked c.args.key.now c.in-Some.slot (sym c.in-Some.ensures)).0)
 
-pub returns-then-s-self : goal.returns-then-s-self
-returns-then-s-self c =
+pub bounds-self-key : goal.bounds-self-key
+bounds-self-key c = (bounds c.args.self.now.ranked c.args.key.now c.in-Some.slot (sym c.in-Some.ensures)).2
+
+pub overflow_cast-slot : goal.overflow_cast-slot
+overflow_cast-slot c = let b = bounds c.args.self.now.ranked c.args.key.now c.in-Some.slot (sym c.in-Some.ensures) in omega arith
+
+pub push-requires : goal.push-requires
+push-requires c = let b = bounds c.args.self.now.ranked c.args.key.now c.in-Some.slot (sym c.in-Some.ensures) in (omega arith, b.3)
+
+pub invariant_of-self : goal.invariant_of-self
+invariant_of-self c =
     let s = c.args.self.now in
     let k = c.args.key.now in
+    let b = bounds s.ranked k c.in-Some.slot (sym c.in-Some.ensures) in
+    let long : c.args.key.now.number < length c.args.self.now.slots = omega arith in
     record {
-      kept = rank_out c.requires k
-          (get_or s.slots k.number 0) c.if-r-ge-NUMBERS.false refl c.if-s-self.true;
-      answer = ap is_some (found c.requires k (Some (get_or s.slots k.number 0))
-          (there c.requires k c.if-r-ge-NUMBERS.false c.if-s-self.true));
-      means = means_out c.requires k
-          (get_or s.slots k.number 0) c.if-r-ge-NUMBERS.false refl c.if-s-self.true;
+      ranked = rw (refilled s.keys.items c.deref_mut.result.now c.in-Some.slot None c.deref_mut.ensures.value, c.push.ensures.items)
+          (rank_out s.ranked k c.in-Some.slot (sym c.in-Some.ensures) long);
     }
 
-pub returns-else-s-self : goal.returns-else-s-self
-returns-else-s-self c =
-    let k = c.args.key.now in
+pub returns : goal.returns
+returns c =
+    let s = c.args.self.now in
     record {
-      kept = c.requires;
-      answer = ap is_some (found c.requires k None
-          (nowhere c.requires k (λ _. c.if-s-self.false)));
-      means = means_stay c.requires k (λ _. c.if-s-self.false);
+      answer = ap is_some c.in-Some.ensures;
+      means = ap (λ ks. register ks s.capacity) (refilled s.keys.items c.deref_mut.result.now c.in-Some.slot None c.deref_mut.ensures.value)
+          ∙ ap (freed (numbered_meaning s)) c.in-Some.ensures;
     }

@@ -1,5 +1,5 @@
 use Rattle.std.proofs.Common.{◌≡◌, ℕ, ◌+◌, ◌%◌, ◌<◌, Bool, true, false, List, [], ◌∷◌, drop, MatchBool, sym, ap, ◌∙◌, arith}
-use Rattle.orders.specs.Rings.{queue, at}
+use Rattle.orders.specs.Rings.{queue, at, nexts}
 use Rattle.orders.specs.Meaning.{some_due}
 use Rattle.orders.specs.Flat.{flat, turned}
 use Rattle.orders.specs.Laws.{flat_due_none, flat_due_some}
@@ -10,4 +10,4 @@ told t p h true e = let z : (p + 0) % 256 ≡ p = omega arith in sym (flat_due_s
 told t p h false e = let z : (p + 0) % 256 ≡ p = omega arith in sym (flat_due_none (turned t p) 255 (ap (queue t) z ∙ e))
 
 pub returns : goal.returns
-returns c = told c.args.self.now.queues.next c.args.self.now.hand c.requires c.filled.result c.filled.ensures
+returns c = told (nexts c.args.self.now.queues.nodes) c.args.self.now.hand c.args.self.now.hand_in c.filled.result c.filled.ensures

@@ -1,32 +1,40 @@
-use Rattle.std.proofs.Common.{◌≡◌, ◌<◌, length, sym, ap, arith}
-use Rattle.orders.specs.Meaning.{OrderMeaning, holding}
-use Rattle.orders.specs.FlatTable.{flat_order}
-use Rattle.orders.specs.FlatTables.{listed_long, expel_over, expel_kept, expel_leaver, expel_waiting}
+use Rattle.std.proofs.Common.{List, sym, ap, subst, ◌∙◌}
+use Rattle.orders.specs.declared.Entry.{Entry}
+use Rattle.orders.specs.Meaning.{OrderMeaning, fallen, holding}
+use Rattle.orders.specs.Wheels.{Over}
+use Rattle.orders.specs.FlatTable.{flat_order, FirstLeast}
+use Rattle.orders.specs.FlatTables.{expel_over, expel_neat, expel_leaver, expel_waiting}
 use Rattle.orders.proofs.flat.FlatOrderOrder.expel.Goals as goal
 
 pub lower-requires : goal.lower-requires
 lower-requires c =
+    let xs = c.args.self.now.entries.items in
+    let i = c.first_least-i.result in
+    let least = subst (λ (ys : List Entry). FirstLeast ys i) c.deref.ensures.0 c.first_least-i.ensures in
+    let e = c.remove-slot.result in
+    subst (Over e.credit) (sym (c.deref_mut.ensures.value ∙ c.remove-slot.ensures.items)) (expel_over xs i least e c.remove-slot.ensures.value)
+
+pub invariant_of-self : goal.invariant_of-self
+invariant_of-self c =
     let o = c.args.self.now in
     let i = c.first_least-i.result in
-    let least = c.first_least-i.ensures in
-    let n = listed_long o.table o.count c.requires in
-    let h : i < o.count = omega (arith, least.inside) in
-    expel_over o.table o.count c.requires i c.close_gap.new.table h c.close_gap.auto.table c.close_gap.ensures least
+    let least = subst (λ (ys : List Entry). FirstLeast ys i) c.deref.ensures.0 c.first_least-i.ensures in
+    let e = c.remove-slot.result in
+    record {
+      neat = expel_neat o.entries.items i least e c.remove-slot.ensures.value c.remove-slot.new.self.items c.lower.new.entries c.remove-slot.ensures.items
+          (c.lower.ensures ∙ ap (fallen e.credit) c.deref_mut.ensures.value) o.neat;
+    }
 
 pub returns : goal.returns
 returns c =
     let o = c.args.self.now in
+    let xs = o.entries.items in
     let i = c.first_least-i.result in
-    let least = c.first_least-i.ensures in
-    let m : OrderMeaning = flat_order o.table o.count in
-    let n = listed_long o.table o.count c.requires in
-    let h : i < o.count = omega (arith, least.inside) in
-    let t = c.close_gap.new.table in
-    let same : length t ≡ length o.table = c.close_gap.auto.table in
-    let gap = c.close_gap.ensures in
-    let ys = c.lower.new.entries in
+    let least = subst (λ (ys : List Entry). FirstLeast ys i) c.deref.ensures.0 c.first_least-i.ensures in
+    let e = c.remove-slot.result in
+    let m : OrderMeaning = flat_order xs in
     record {
-      still = expel_kept o.table o.count c.requires i t h same gap least ys c.lower.ensures;
-      answer = sym (expel_leaver o.table o.count c.requires i t h same gap least ys c.lower.ensures);
-      after = ap (holding m) (expel_waiting o.table o.count c.requires i t h same gap least ys c.lower.ensures);
+      answer = expel_leaver xs i least e c.remove-slot.ensures.value;
+      after = ap (holding m) (expel_waiting xs i least e c.remove-slot.ensures.value c.remove-slot.new.self.items c.lower.new.entries c.remove-slot.ensures.items
+          (c.lower.ensures ∙ ap (fallen e.credit) c.deref_mut.ensures.value));
     }

@@ -1,20 +1,19 @@
-use Rattle.std.proofs.Common.{◌≡◌, ℕ, List, [], replicate, refl, ap, ◌∙◌}
-use Rattle.std.proofs.lemmas.List.{length-replicate, get_or-replicate}
-use Rattle.orders.specs.Wheels.{wheel}
+use Rattle.std.proofs.Common.{[], refl, ap, ◌∙◌}
+use Rattle.orders.specs.Steps.{means}
 use Rattle.orders.specs.Meaning.{OrderMeaning, holding}
-use Rattle.orders.proofs.Owns.{empty_waiting, empty_sound}
+use Rattle.orders.proofs.Owns.{fresh_waiting, fresh_sound}
 use Rattle.orders.proofs.wheel.Wheel.new.Goals as goal
+
+pub invariant_of-result : goal.invariant_of-result
+invariant_of-result g c = record {
+  sound = fresh_sound c.new.result c.new.ensures (g.O.Order.meaning c.empty.new.self) (ap (λ (z : OrderMeaning). z.waiting) c.empty.ensures.after);
+}
 
 pub returns : goal.returns
 returns g c =
     let m : OrderMeaning = g.O.Order.meaning c.args.below in
-    let n : OrderMeaning = g.O.Order.meaning c.empty.new.self in
-    let v = c.new.result in
-    let later : List ℕ = replicate 1024 256 in
-    let W : OrderMeaning = wheel v.next 0 later m in
-    let gone : n ≡ holding m [] = c.empty.ensures.after in
+    let w = c.new.result in
     record {
-      valid = (c.empty.ensures.still, empty_sound v later n c.new.ensures.queues (ap (λ (z : OrderMeaning). z.waiting) gone) (length-replicate {A = ℕ} 1024 256) (λ x h. get_or-replicate {A = ℕ} 1024 x 256 0 h));
-      meaning = ap (wheel v.next 0 later) gone ∙ ap (holding W) (empty_waiting v later (holding m []) c.new.ensures.queues refl);
-      rested = (refl, c.empty.ensures.hands);
+      meaning = ap (means w) c.empty.ensures.after ∙ ap (holding (means w m)) (fresh_waiting w c.new.ensures (holding m []) refl);
+      rested = (c.new.ensures.hand, c.empty.ensures.hands);
     }

@@ -1,5 +1,5 @@
 use Rattle.std.proofs.Common.{◌≡◌, ℕ, suc, ◌+◌, ◌-◌, ◌<◌, Bool, true, false, List, [], ◌∷◌, drop, MatchBool, sym, ap, ◌∙◌, arith}
-use Rattle.orders.specs.Rings.{queue, at}
+use Rattle.orders.specs.Rings.{queue, at, nexts}
 use Rattle.orders.specs.Meaning.{some_due}
 use Rattle.orders.specs.Flat.{flat}
 use Rattle.orders.specs.Wheels.{own}
@@ -16,5 +16,5 @@ told t p h false e = let z : p + 0 ≡ p = omega arith in let n : 256 - p ≡ su
 pub returns : goal.returns
 returns g c =
     let w = c.args.self.now in
-    told w.queues.next w.hand c.requires.1.linked.hand_in c.filled.result c.filled.ensures
-    ∙ sym (wheel_due w.queues w.later w.hand (g.O.Order.meaning w.below) c.requires.1.linked c.requires.1.ripe)
+    told (nexts w.own.queues.nodes) w.own.hand w.sound.linked.hand_in c.filled.result c.filled.ensures
+    ∙ sym (wheel_due w.own.queues w.own.later w.own.hand (g.O.Order.meaning w.below) w.sound.linked w.sound.ripe)

@@ -1,21 +1,19 @@
-use Rattle.std.proofs.Common.{◌≡◌, ℕ, List, [], replicate, refl, ap, ◌∙◌}
-use Rattle.std.proofs.lemmas.List.{length-replicate, get_or-replicate}
-use Rattle.orders.specs.Wheels.{wheel}
+use Rattle.std.proofs.Common.{[], refl, ap, ◌∙◌}
+use Rattle.orders.specs.Steps.{means}
 use Rattle.orders.specs.Meaning.{OrderMeaning, holding}
-use Rattle.orders.proofs.Owns.{empty_waiting, empty_sound}
+use Rattle.orders.proofs.Owns.{fresh_waiting, fresh_sound}
 use Rattle.orders.proofs.wheel.WheelOrder.empty.Goals as goal
+
+pub invariant_of-self : goal.invariant_of-self
+invariant_of-self g c = record {
+  sound = fresh_sound c.new-self.result c.new-self.ensures (g.O.Order.meaning c.empty.new.self) (ap (λ (z : OrderMeaning). z.waiting) c.empty.ensures.after);
+}
 
 pub returns : goal.returns
 returns g c =
-    let w = c.args.self.now in
-    let m : OrderMeaning = g.O.Order.meaning w.below in
-    let n : OrderMeaning = g.O.Order.meaning c.empty.new.self in
-    let W : OrderMeaning = wheel w.queues.next w.hand w.later m in
-    let v = c.new-self.result in
-    let later : List ℕ = replicate 1024 256 in
-    let gone : n ≡ holding m [] = c.empty.ensures.after in
+    let m : OrderMeaning = g.O.Order.meaning c.args.self.now.below in
+    let w = c.new-self.result in
     record {
-      still = (c.empty.ensures.still, empty_sound v later n c.new-self.ensures.queues (ap (λ (z : OrderMeaning). z.waiting) gone) (length-replicate {A = ℕ} 1024 256) (λ x h. get_or-replicate {A = ℕ} 1024 x 256 0 h));
-      after = ap (wheel v.next 0 later) gone ∙ ap (holding W) (empty_waiting v later (holding m []) c.new-self.ensures.queues refl);
-      hands = (refl, c.empty.ensures.hands);
+      after = ap (means w) c.empty.ensures.after ∙ ap (holding (means w m)) (fresh_waiting w c.new-self.ensures (holding m []) refl);
+      hands = (c.new-self.ensures.hand, c.empty.ensures.hands);
     }
