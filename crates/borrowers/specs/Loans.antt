@@ -6,7 +6,7 @@ use Rattle.promises.specs.State.{State, known}
 use Rattle.promises.specs.Events.{leases, writes, gives_back}
 use Rattle.promises.specs.Steps.{Step}
 
--- exactly those leases are out after that were out before
+-- exactly those leases are out after that were out before (a relation of two states, so that no field of a value can hold it)
 pub record KeepsLeases {K : Type 0} (s u : State K) : Type 0 where
   pub kept : (t : Ticket) → known u.table t ≡ known s.table t
 

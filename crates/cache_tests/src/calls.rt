@@ -71,6 +71,7 @@ pub(crate) fn play<K: Key, D: Directory<K>, O: Order>(
 ) -> Result<(), Wrong>
     ensures { KeepsLeases (state_of cache.old) (state_of cache.new) }
 {
+    // A loop, and no `position`: of what a closure did to the cache nothing is known after it.
     for (i, step) in steps.iter().enumerate() {
         if !agrees(cache, slab, lease, keys, step) {
             return Err(Wrong::Answer(i));

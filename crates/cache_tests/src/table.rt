@@ -97,6 +97,7 @@ impl From<Refusal> for Wrong {
 }
 
 impl From<&[u8]> for Text {
+    // No `Option`: a table names a value by letter and length, and 0 is no letter of a table.
     /// The letter is 0 where the bytes are not all one.
     fn from(part: &[u8]) -> Text {
         let letter = match part.first() {
@@ -141,6 +142,7 @@ impl From<Presence> for Answer {
 }
 
 impl Answer {
+    // No `From`: it needs the names of the keys.
     /// What a keep answered, with the key that left by its name.
     pub(crate) fn of_keep<K: Key>(
         kept: Result<Kept<Evicted<K>>, Refusal>,

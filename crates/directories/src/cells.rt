@@ -7,8 +7,8 @@ ghost use Rattle.directories.specs.Tables.{vacant, Wiped};
 use std::mem;
 
 /// One cell of a hashed directory, which stands for a slot, a bucket and a place of a stack at once.
-// The size ends a chain, and no `Option` does: so a walk to the end and a walk up to a slot are each one
-// comparison of two numbers, and the caller's cells stay smaller.
+// The size ends a chain, and no `Option` does: the memory of the cells is the caller's, who would pay two bytes more for
+// each link, and a walk to the end and a walk up to a slot are each one comparison of two numbers.
 #[derive(Clone, Copy)]
 pub struct Cell<K> {
     // The key at the slot.

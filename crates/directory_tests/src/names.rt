@@ -6,12 +6,9 @@ use std::test::Fail;
 #[derive(Clone, Copy, Debug)]
 pub(crate) struct NoName;
 
-// The length of the name that these bytes make, or 0 if they make none.
+// The length of the name that these bytes make, or 0, no name's length, if they make none: the figures below are written so.
 fn made(bytes: &[u8]) -> usize {
-    match PartName::new(bytes) {
-        Some(name) => name.bytes().len(),
-        None => 0,
-    }
+    PartName::new(bytes).map_or(0, |name| name.bytes().len())
 }
 
 #[test]

@@ -6,6 +6,7 @@ use crate::{ForecastError, LineFault, Reason};
 use orders::{FLAT_SPAN, SLOTS};
 use std::alloc::Global;
 
+// No `Entry` of an order: an entry waits, and has a credit.
 /// A row of the table: the slot, and the cost that it is placed with.
 #[derive(Clone, Copy, Debug, PartialEq)]
 pub struct Row {
@@ -15,17 +16,17 @@ pub struct Row {
 
 const NAMES: &[u8; 10] = b"slot cost\n";
 
-// The greatest value that is told from others: no slot or cost is as great.
+// The greatest value that is told from others: no slot or cost is as great. (No `Option`: what is wrong with a row is told by the tests of the row.)
 const CAP: u32 = 100_000;
 
-// The first place at which the byte stands. (`traces` has the like, and stands on no crate that this one stands on.)
+// The first place at which the byte stands. (`traces` has the like; the one crate below both, `orders`, is no place for it.)
 fn find(bytes: &[u8], byte: u8) -> Option<usize>
     ensures { FirstPlace byte bytes.now result }
 {
     bytes.iter().position(|b| *b == byte)
 }
 
-// A decimal value, or `CAP` in the place of a greater one.
+// A decimal value, or `CAP` in the place of a greater one. (`parse` would also read a sign, and fail on a great value.)
 fn decimal(digits: &[u8]) -> Option<u32>
     ensures { result ≡ option_map capped (decimal_value digits.now) }
 {

@@ -1,31 +1,22 @@
 use crate::new_stack;
-use orders::{BottomWheel, Entry, FlatOrder, Order, Wheel, new_pile};
+use orders::{BottomWheel, Entry, Expelled, FlatOrder, Order, Wheel, new_pile};
 
 /// Places each entry in turn; whether all were taken.
 fn takes_all<O: Order>(order: &mut O, entries: &[(u32, u32)]) -> bool {
-    let mut all = true;
-    for (slot, credit) in entries {
-        if !order.place(*slot, *credit) {
-            all = false;
-        }
-    }
-    all
+    entries.iter().fold(true, |all, (slot, credit)| {
+        order.place(*slot, *credit) && all
+    })
 }
 
 /// Expels as often as entries are given; whether they left so, slot and credit.
 fn leave_as<O: Order>(order: &mut O, entries: &[(u32, u32)]) -> bool {
-    let mut all = true;
-    for (slot, credit) in entries {
-        match order.expel() {
-            Some(left) => {
-                if left.slot != *slot || left.credit != *credit {
-                    all = false;
-                }
-            }
-            None => all = false,
-        }
-    }
-    all
+    entries.iter().fold(true, |all, (slot, credit)| {
+        let left = Expelled {
+            slot: *slot,
+            credit: *credit,
+        };
+        order.expel() == Some(left) && all
+    })
 }
 
 /// What is placed in a fresh pile, slot and credit, and how it leaves again.

@@ -28,7 +28,7 @@ impl FlatOrder {
     }
 }
 
-// Whether a placing of that slot and credit is within the order's limits.
+// Whether a placing of that slot and credit is within the order's limits. (Each order has limits of its own, and this one tests them apart.)
 fn within_limits(slot: u32, credit: u32) -> bool
     ensures { result ≡ permitted slot credit }
 {
@@ -47,6 +47,7 @@ fn first_least(entries: &[Entry]) -> usize
     requires { 0 < length entries.now }
     ensures { FirstLeast entries.now result }
 {
+    // A loop over the place of the best so far: `min_by_key` answers an entry, and `remove` wants its place.
     let mut best = 0;
     for (i, entry) in entries.iter().enumerate() {
         if entry.credit < entries[best].credit {

@@ -44,8 +44,8 @@ pub struct Entry {
     pub credit: u32,
 }
 
-/// A slot that has left, and the credit it left with, by which every remaining credit fell. It is no `Entry`:
-/// what leaves may come to tell more than what waits.
+/// A slot that has left, and the credit it left with, by which every remaining credit fell. It is no `Entry`,
+/// since a clause that speaks of one of the two says by its type which.
 #[derive(Clone, Copy, Debug, PartialEq)]
 pub struct Expelled {
     pub slot: u32,

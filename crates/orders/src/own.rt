@@ -29,6 +29,7 @@ impl OwnPart {
         }
     }
 
+    // As `Queues::holds`, of another table: each is one look.
     /// Whether a queue is remembered for the slot.
     pub(crate) fn remembers(&self, slot: usize) -> bool
         requires { slot < 1024 }
@@ -60,6 +61,7 @@ impl OwnPart {
         let first = below.expel()?;
         self.hand = 0;
         self.raise(first.slot as usize);
+        // It counts nothing, and ends when the order below has no slot due.
         while below.due() {
             if let Some(next) = below.expel() {
                 self.raise(next.slot as usize);

@@ -27,7 +27,7 @@ pub(crate) struct Node {
 #[derive(Drop)]
 pub(crate) struct Queues {
     pub(crate) nodes: [Node; NODES],
-    /// The queue of each slot that stands in one.
+    /// The queue of each slot that stands in one. It is a table of its own, since an anchor has no queue.
     pub(crate) home: [Option<u8>; PLACES],
     marks: Marks,
     ghost rings: { Rings (nexts nodes) (prevs nodes) home (queue (nexts nodes)) } by { rings_prop (nexts nodes) (prevs nodes) home (queue (nexts nodes)) },

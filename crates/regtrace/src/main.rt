@@ -22,11 +22,12 @@ to 65280 milliseconds. A fault is printed in place of a report, and the status i
 
 fn main(rt: HostRuntime) -> anyhow::Result<()> {
     let heap = rt.alloc();
-    for word in env::args(&rt)?.skip(1) {
-        if word.as_str() == "--help" {
-            rt.stdout().write_all(HELP.as_bytes())?;
-            return Ok(());
-        }
+    if env::args(&rt)?
+        .skip(1)
+        .any(|word| word.as_str() == "--help")
+    {
+        rt.stdout().write_all(HELP.as_bytes())?;
+        return Ok(());
     }
     let mut input = Vec::new(heap);
     rt.stdin().take(MOST_BYTES).read_to_end(&mut input)?;

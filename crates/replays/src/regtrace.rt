@@ -11,6 +11,7 @@ use std::alloc::{AllocError, Global};
 use traces::{Printable, Report, Trace, TraceError, read_trace, write_text};
 
 /// What the program prints: a report, and it ends well; or a fault.
+// An enum of its own, and no `Result` of two texts: both are printed, and a `?` would end the program before that.
 #[derive(Debug, PartialEq, Drop)]
 pub enum Printout {
     Report(Vec<u8>),

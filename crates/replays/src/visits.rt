@@ -13,6 +13,7 @@ use orders::Order;
 use promises::{Evicted, Kept, Refusal};
 use traces::{Outcome, Row};
 
+// No `From`: it needs the row's cost.
 /// What a row led to, by what its keep did.
 fn outcome_of(kept: Kept<Evicted<RegionNumber>>, cost: u32) -> Outcome
     ensures { result ≡ kept_as kept cost }

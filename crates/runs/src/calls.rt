@@ -1,5 +1,6 @@
 // One ask, by the call that it wants.
-// Cache, leases and slab are passed side by side: the check has no rule for a get that lends the cache and the slab of one struct.
+// Cache, leases, slab, asks and happenings are passed side by side. A struct of them was tried: the check has no rule for a get that lends the cache
+// and the slab of one struct, so that each get would need a function beside the struct that takes both as `&mut`, and be no plainer.
 ghost use Rattle.std.specs.Prelude.{◌≡◌, ℕ, ◌+◌, ◌<◌, ◌≤◌, List, Vec as OneVec, vec_items, vec_len, vec_capacity};
 ghost use Rattle.std.specs.declared.alloc.Global.{Global};
 ghost use Rattle.cache.specs.declared.lease.Lease.{Lease as OneLease};

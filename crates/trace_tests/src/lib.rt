@@ -97,6 +97,7 @@ mod tests {
     #[test]
     fn many_rows(rt: HostRuntime) -> Result<(), Fail> {
         let mut text = b"slots\n2\nkey cost\n".to_vec(rt.alloc())?;
+        // It uses no index; a want of memory ends the test.
         for _ in 0..2048 {
             text.extend_from_slice(b"A 3\n")?;
         }
@@ -162,6 +163,7 @@ mod tests {
         );
         assert!(rt; out[0] == b'x');
         let mut rows = Vec::new(rt.alloc());
+        // It uses no index; a want of memory ends the test.
         for _ in 0..2049 {
             rows.push(row(1, 1))?;
         }

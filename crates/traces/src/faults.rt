@@ -86,7 +86,8 @@ impl FaultKind {
     }
 }
 
-/// A fault, and where it stands: lines and columns count from 1, and want of room has 0 for both.
+/// A fault, and where it stands: lines and columns count from 1, and want of room has 0 for both. (0, and no `Option`: the format prints
+/// a line and a column of every fault.)
 #[derive(Clone, Copy, Debug, PartialEq)]
 pub struct Fault {
     pub kind: FaultKind,

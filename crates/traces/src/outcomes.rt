@@ -41,6 +41,7 @@ pub struct Counts {
 }
 
 impl Counts {
+    // Not `Default`: it is named by what it counts, and its contract says so.
     /// The counts of no row.
     pub(crate) fn none() -> Counts
         ensures { result ≡ no_counts }

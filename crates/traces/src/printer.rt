@@ -90,6 +90,7 @@ impl Printable for Fault {
     }
 }
 
+// The four below are `text_len` and `write_text` of a report and of a fault, for callers that know them by these names.
 /// How many bytes a report takes.
 pub fn report_len(report: &Report) -> usize
     ensures { result ≡ length (report_text report.now) }

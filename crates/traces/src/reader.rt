@@ -167,6 +167,7 @@ fn keep_rows(heap: Global, rows: RowLines<'_>) -> Result<Vec<Row>, TraceError>
     ensures { MatchResult result (λ v. Rows rows.entry.order 4 (cut rows.entry.lines.rest.now) v.items) (λ e. IfFound e (LeastFrom rows.entry.order 4 rows.entry.lines.rest.now)) }
 {
     let mut kept = Vec::new(heap);
+    // A loop, and no `collect`: a fault and want of memory both end it.
     for row in rows {
         kept.push(row?)?;
     }

@@ -46,6 +46,7 @@ impl<T: Copy, const N: usize> Few<T, N> {
         self.count < N
     }
 
+    // Lists are filled by it and not by `collect`, which may fail.
     /// Adds an item behind the others.
     pub(crate) fn push(&mut self, item: T)
         requires { length (items_of self.old) < N }

@@ -58,6 +58,7 @@ impl<'a, D: Directory<RegionNumber>, O: Order> Shift<'a, D, O> {
         }
     }
 
+    // As `drop_region` by its shape, with another call and another deed: one function for both would take the call as an argument.
     /// Asks where a region is.
     pub(crate) fn state(&mut self, worker: Worker, key: RegionNumber)
         ensures same { self.new.cache ≡ self.old.cache }
