@@ -1,8 +1,8 @@
 -- A wheel's place, withdraw and due: its own queues, and the order below.
-use Rattle.std.proofs.Common.{◌≡◌, ℕ, ◌+◌, ◌-◌, ◌*◌, ◌<◌, ◌≤◌, Bool, true, false, cond, ◌||◌, eqb, List, [], ◌∷◌, ◌++◌, length, set, Some, None, Option, sym, refl, ap, ◌∙◌, subst, ap₂, ⊎_elim, arith}
+use Rattle.std.proofs.Common.{◌≡◌, ℕ, ◌+◌, ◌-◌, ◌*◌, ◌<◌, ◌≤◌, Bool, true, false, cond, ◌||◌, eqb, List, [], ◌∷◌, ◌++◌, length, set, Some, None, Option, sym, refl, ap, replicate, ◌∙◌, subst, ap₂, ⊎_elim, arith}
 use Rattle.std.specs.Option.{is_some}
 use Rattle.std.proofs.ByRecursion.{All-weaker}
-use Rattle.std.proofs.lemmas.List.{get_or-set_same, get_or-set_other, length-set}
+use Rattle.std.proofs.lemmas.List.{get_or-set_same, get_or-set_other, get_or-replicate, length-replicate, length-set}
 use Rattle.std.proofs.lemmas.Bool.Decides.{nat_tests}
 use Rattle.std.proofs.lemmas.Bool.{cases_eq, cases_lt, eq-eqb, ne_eqb, cond-true, cond-false, or_from, or_left, both_ways}
 use Rattle.orders.specs.declared.Entry.{Entry}
@@ -228,6 +228,15 @@ clear_waiting v later p m hp clear none =
     let z : 256 - p ≡ (256 - p) + 0 = omega arith in
     ap (λ (ws : List Entry). merged (own (nexts v.nodes) p) (lift p later ws)) none
     ∙ ap (flat (λ c. queue (nexts v.nodes) (p + c)) 0) z ∙ nothing (λ c. queue (nexts v.nodes) (p + c)) 0 (256 - p) (λ j a b. clear (p + j) (omega arith))
+
+-- a part with no slot in any queue, the hand at 0 and nothing remembered
+pub fresh_part : (q : Queues) → Bare (queue (nexts q.nodes)) → FreshPart (record { queues = q; hand = 0; later = replicate 1024 None })
+fresh_part q bare = record {
+  bare = bare;
+  hand = refl;
+  later_long = length-replicate {A = Option ℕ} 1024 None;
+  forgets = λ x h. get_or-replicate {A = Option ℕ} 1024 x None None h;
+}
 
 module _ (w : OwnPart) (fresh : FreshPart w) (m : OrderMeaning) (none : m.waiting ≡ []) where
   pub fresh_waiting : (means w m).waiting ≡ []

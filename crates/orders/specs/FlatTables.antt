@@ -1,10 +1,12 @@
 -- What the calls of the flat order come to, over the entries in placing order.
-use Rattle.std.specs.Prelude.{◌≡◌, ℕ, zero, suc, ◌+◌, ◌-◌, ◌<◌, ◌≤◌, Bool, true, false, ◌&&◌, ◌||◌, List, [], ◌∷◌, ◌++◌, length, take, drop, Some, ◌==◌, ◌≢◌, nat_le, nat_lt, slice_set, slice_index_or, refl}
-use Rattle.std.proofs.Common.{sym, ap, ap₂, subst, ◌∙◌, arith, length-append, length-drop, length-take-le}
+use Rattle.std.specs.Prelude.{◌≡◌, ℕ, zero, suc, ◌+◌, ◌-◌, ◌<◌, ◌≤◌, Bool, true, false, ◌&&◌, ◌||◌, List, [], ◌∷◌, ◌++◌, length, take, drop, Some, ◌==◌, ◌≢◌, nat_le, nat_lt, slice_range, slice_set, refl}
+use Rattle.std.proofs.Common.{sym, ap, ap₂, subst, ◌∙◌, append_assoc, arith, length-append, length-drop, length-take, length-take-le}
+use borrow.Rule.Slice.PartMut.{put_mid}
 use Rattle.std.proofs.Math.Seq.{split_at}
-use Rattle.std.specs.List.{remove, refill, list_any, AllByRecursion}
+use Rattle.std.specs.List.{remove, list_any, AllByRecursion}
 use Rattle.std.proofs.ByRecursion.{All-weaker, All-push, All-append, All-get_or, All-from_get_or}
-use Rattle.std.proofs.lemmas.List.{take_more, take_more_set, take_at, drop_more, drop-set-lt, get_or-take, get_or-drop, get_or_default}
+use Rattle.std.proofs.lemmas.List.{take_more, take_more_set, take-take, take_at, drop_more, drop-drop, drop-set-lt, get_or-take, get_or-drop}
+use Rattle.std.proofs.lemmas.Slice.{between_is}
 use Rattle.std.proofs.lemmas.Bool.{eq-eqb, ne_eqb, or_parts, or_from, or_left, or_right, eqb-false, both_ways, and_parts, ltb-true, leb-true}
 use Rattle.orders.specs.declared.Entry.{Entry}
 use Rattle.orders.specs.Meaning.{Lawful, joined, waits, without, fallen, leaver, rest, some_due, Apart}
@@ -108,6 +110,10 @@ room xs s n a w =
     let e = length-append xs (entry s 0 ∷ []) in
     omega arith
 
+-- so a table has a place behind its first `n` entries, where the slot is free in these
+pub place_room : (table : List Entry) (n s : ℕ) → n ≤ length table → Neat (take n table) → s < 1024 → waits s (take n table) ≡ false → n < 1024
+place_room table n s h k a w = let l = length-take-le n table h in let r = room (take n table) s k a w in omega arith
+
 -- ---- the loops
 
 -- none of them is the slot
@@ -158,6 +164,23 @@ without_at s (x ∷ xs) zero a h e = drop_same s x xs e ∙ without_absent s xs 
 without_at s (x ∷ xs) (suc i) a h e =
     drop_else s x xs (λ z. both_ways (waits s xs) (subst (λ (t : ℕ). waits t xs ≡ false) z a.0) (waits_here s xs i (omega arith) e))
     ∙ ap (λ (zs : List Entry). x ∷ zs) (without_at s xs i a.1 (omega arith) e)
+
+-- the first `n` entries of a table, of which those from `i` on were turned by one
+pub gap_closed : (xs ys : List Entry) (n i : ℕ) → i < n → n ≤ length xs → ys ≡ drop 1 (slice_range xs i n) ++ take 1 (slice_range xs i n) →
+    take (n - 1) (put_mid i (n - i) xs ys) ≡ remove (take n xs) i
+gap_closed xs ys n i h k e =
+    let mid : List Entry = take (n - i) (drop i xs) in
+    let post : List Entry = drop (n - i) (drop i xs) in
+    let kept : List Entry = take i xs ++ drop 1 mid in
+    let long : length mid ≡ n - i = length-take-le (n - i) (drop i xs) (let d = length-drop i xs in omega arith) in
+    let short : length kept ≡ n - 1 =
+    (let a = length-append (take i xs) (drop 1 mid) in let b = length-take-le i xs (omega arith) in let d = length-drop 1 mid in omega arith) in
+    let apart : take i xs ++ (ys ++ post) ≡ kept ++ (take 1 mid ++ post) =
+    ap (λ (zs : List Entry). take i xs ++ (zs ++ post)) e ∙ simp append_assoc in
+    let front : take i (take n xs) ≡ take i xs = take-take i n xs (omega arith) in
+    let back : drop 1 mid ≡ drop (suc i) (take n xs) =
+    ap (drop 1) (between_is xs i n) ∙ drop-drop 1 i (take n xs) ∙ ap (λ (z : ℕ). drop z (take n xs)) (let z : i + 1 ≡ suc i = omega arith in z) in
+    ap (take (n - 1)) apart ∙ take_at kept (take 1 mid ++ post) (n - 1) short ∙ ap₂ (λ (us vs : List Entry). us ++ vs) (sym front) back
 
 -- ---- expel
 
@@ -234,23 +257,25 @@ module _ (xs : List Entry) (s i : ℕ) (found : Found xs s (Some i)) where
 pub flat_placed : (xs : List Entry) (s c : ℕ) → (flat_order (xs ++ entry s c ∷ [])).waiting ≡ joined (entry s c) (flat_order xs).waiting
 flat_placed xs s c = merged_append [] xs (entry s c ∷ [])
 
--- the first of the least leaves, and the others fall: as the vector has it, and what is written through its slice
-module _ (xs : List Entry) (i : ℕ) (l : FirstLeast xs i) (e : Entry) (is : e ≡ slice_index_or xs i e) where
-  least_is : entry_at xs i ≡ e
-  least_is = get_or_default xs i (entry 0 0) e l.inside ∙ sym is
+-- the first of the least leaves, and the others fall, where the entries are the first `count` of a table
+module _ (table : List Entry) (count i : ℕ) (l : FirstLeast (take count table) i) where
+  listed_at : entry_at (take count table) i ≡ entry_at table i
+  listed_at = let h = l.inside in let n = length-take count table in get_or-take count table i (entry 0 0) (omega arith)
 
-  pub expel_over : Over e.credit (remove xs i)
-  expel_over = subst (λ (y : Entry). Over y.credit (remove xs i)) least_is (least_over xs i l)
+  pub expel_leaver : Some (record { slot = (entry_at table i).slot; credit = (entry_at table i).credit }) ≡ leaver (flat_order (take count table)).waiting
+  expel_leaver = sym (ap leaver (least_leads (take count table) i l) ∙ ap (λ (e : Entry). Some (record { slot = e.slot; credit = e.credit })) listed_at)
 
-  pub expel_leaver : Some (record { slot = e.slot; credit = e.credit }) ≡ leaver (flat_order xs).waiting
-  expel_leaver = sym (ap leaver (least_leads xs i l) ∙ ap (λ (y : Entry). Some (record { slot = y.slot; credit = y.credit })) least_is)
+  module _ (ys : List Entry) (gone : ys ≡ remove (take count table) i) where
+    pub expel_over : Over (entry_at table i).credit ys
+    expel_over = rw (gone, ← listed_at) (least_over (take count table) i l)
 
-  module _ (ys zs : List Entry) (gone : ys ≡ remove xs i) (low : zs ≡ fallen e.credit ys) where
-    pub expel_written : refill (length ys) ys zs ≡ fallen e.credit (remove xs i)
-    expel_written = take_at zs (drop (length zs) ys) (length ys) (ap length low ∙ fallen_length e.credit ys) ∙ low ∙ ap (fallen e.credit) gone
+    module _ (zs : List Entry) (low : zs ≡ fallen (entry_at table i).credit ys) where
+      low_gone : zs ≡ fallen (entry_at (take count table) i).credit (remove (take count table) i)
+      low_gone = low ∙ ap₂ (λ (e : Entry) (us : List Entry). fallen e.credit us) (sym listed_at) gone
 
-    pub expel_neat : Neat xs → Neat (refill (length ys) ys zs)
-    expel_neat n = subst Neat (sym expel_written) (neat_fallen (remove xs i) e.credit (neat_removed xs i l.inside n))
+      pub expel_neat : Neat (take count table) → Neat zs
+      expel_neat n = subst Neat (sym low_gone)
+          (neat_fallen (remove (take count table) i) (entry_at (take count table) i).credit (neat_removed (take count table) i l.inside n))
 
-    pub expel_waiting : (flat_order (refill (length ys) ys zs)).waiting ≡ rest (flat_order xs).waiting
-    expel_waiting = ap (merged []) expel_written ∙ ap (λ (y : Entry). merged [] (fallen y.credit (remove xs i))) (sym least_is) ∙ sym (least_rest xs i l)
+      pub expel_waiting : (flat_order zs).waiting ≡ rest (flat_order (take count table)).waiting
+      expel_waiting = ap (merged []) low_gone ∙ sym (least_rest (take count table) i l)

@@ -1,5 +1,5 @@
 -- The orders of this crate: what each means, and when its hands are at 0.
-use Rattle.std.specs.Prelude.{◌≡◌}
+use Rattle.std.specs.Prelude.{◌≡◌, take}
 use Rattle.orders.specs.Rings.{nexts}
 use Rattle.orders.specs.declared.Order.{Ghosts}
 use Rattle.orders.specs.declared.flat.FlatOrder.{FlatOrder}
@@ -12,7 +12,7 @@ use Rattle.orders.specs.Steps.{means}
 -- The flat order has no hands.
 abbrev pub flats : Ghosts FlatOrder
 flats = record {
-  meaning = λ o. flat_order o.entries.items;
+  meaning = λ o. flat_order (take o.count o.entries);
   rested = λ _. Unit {0};
 }
 

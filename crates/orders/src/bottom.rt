@@ -97,6 +97,7 @@ impl Order for BottomWheel {
     }
 
     fn empty(&mut self) {
-        *self = BottomWheel::new();
+        self.queues = Queues::new();
+        self.hand = 0;
     }
 }

@@ -1,4 +1,5 @@
-ghost use Rattle.std.specs.Prelude.{◌≡◌, ◌<◌, length};
+ghost use Rattle.std.specs.Prelude.{◌≡◌, ℕ, ◌-◌, ◌<◌, ◌≤◌, length, take};
+ghost use Rattle.std.specs.List.{remove};
 ghost use Rattle.orders.specs.Meaning.{fallen, some_due};
 ghost use Rattle.orders.specs.FlatTable.{Neat, Found, FirstLeast, permitted};
 ghost use Rattle.orders.specs.Props.{neat_prop};
@@ -6,13 +7,15 @@ ghost use Rattle.orders.specs.Wheels.{Over};
 ghost use Rattle.orders.specs.FlatTables.{neat_lawful};
 
 use crate::{Entry, Expelled, FLAT_SPAN, Order, PLACES, SLOTS};
-use arrayvec::ArrayVec;
 
-/// The flat order: a list of the entries in the order of their placing, which is searched.
+/// The flat order: a table of the entries in the order of their placing, which is searched.
 #[derive(Drop)]
 pub struct FlatOrder {
-    entries: ArrayVec<Entry, PLACES>,
-    ghost neat: { Neat entries.items } by { neat_prop entries.items },
+    // A table with its count, so that `empty` writes one number: a vector of fixed capacity blanks each place.
+    entries: [Entry; PLACES],
+    count: usize,
+    ghost few: { count ≤ 1024 },
+    ghost neat: { Neat (take count entries) } by { neat_prop (take count entries) },
 }
 
 impl FlatOrder {
@@ -23,7 +26,8 @@ impl FlatOrder {
         ensures { FreshFlat result }
     {
         FlatOrder {
-            entries: ArrayVec::new(),
+            entries: [Entry { slot: 0, credit: 0 }; PLACES],
+            count: 0,
         }
     }
 }
@@ -64,6 +68,14 @@ fn any_due(entries: &[Entry]) -> bool
     entries.iter().any(|entry| entry.credit == 0)
 }
 
+// Takes the entry at `at` out of the first `count`; the later ones move up.
+fn close_gap(entries: &mut [Entry], count: usize, at: usize)
+    requires { (at < count) × (count ≤ length entries.old) }
+    ensures { take (count - 1) entries.new ≡ remove (take count entries.old) at }
+{
+    entries[at..count].rotate_left(1);
+}
+
 // Takes `by` off every credit.
 fn lower(entries: &mut [Entry], by: u32)
     requires { Over by entries.old }
@@ -74,6 +86,15 @@ fn lower(entries: &mut [Entry], by: u32)
     }
 }
 
+// Takes `by` off the credits of the first `count`. (A function of its own, since a struct with a ghost field lends a field whole, and no part of it.)
+fn lower_first(entries: &mut [Entry], count: usize, by: u32)
+    requires within { count ≤ length entries.old }
+    requires over { Over by (take count entries.old) }
+    ensures { take count entries.new ≡ fallen by (take count entries.old) }
+{
+    lower(&mut entries[..count], by);
+}
+
 impl Order for FlatOrder {
     ghost use Rattle.orders.specs.Kinds.{flats};
 
@@ -81,10 +102,10 @@ impl Order for FlatOrder {
 
     ghost rested = { flats.rested };
 
-    ghost lawful = { λ o. neat_lawful o.entries.items o.neat };
+    ghost lawful = { λ o. neat_lawful (take o.count o.entries) o.neat };
 
     fn size(&self) -> u32 {
-        self.entries.capacity() as u32
+        self.entries.len() as u32
     }
 
     fn span(&self) -> u32 {
@@ -95,40 +116,47 @@ impl Order for FlatOrder {
         if !within_limits(slot, credit) {
             return false;
         }
-        match find(&self.entries, slot) {
+        let count = self.count;
+        match find(&self.entries[..count], slot) {
             Some(_) => false,
             None => {
-                self.entries.push(Entry { slot, credit });
+                self.entries[count] = Entry { slot, credit };
+                self.count = count + 1;
                 true
             }
         }
     }
 
     fn withdraw(&mut self, slot: u32) -> bool {
-        match find(&self.entries, slot) {
+        let count = self.count;
+        match find(&self.entries[..count], slot) {
             None => false,
             Some(at) => {
-                self.entries.remove(at);
+                close_gap(&mut self.entries, count, at);
+                self.count = count - 1;
                 true
             }
         }
     }
 
     fn expel(&mut self) -> Option<Expelled> {
-        if self.entries.is_empty() {
+        let count = self.count;
+        if count == 0 {
             return None;
         }
-        let i = first_least(&self.entries);
-        let Entry { slot, credit } = self.entries.remove(i);
-        lower(&mut self.entries, credit);
+        let i = first_least(&self.entries[..count]);
+        let Entry { slot, credit } = self.entries[i];
+        close_gap(&mut self.entries, count, i);
+        lower_first(&mut self.entries, count - 1, credit);
+        self.count = count - 1;
         Some(Expelled { slot, credit })
     }
 
     fn due(&self) -> bool {
-        any_due(&self.entries)
+        any_due(&self.entries[..self.count])
     }
 
     fn empty(&mut self) {
-        self.entries.clear();
+        self.count = 0;
     }
 }

@@ -1,7 +1,7 @@
 //! Orders: which slot leaves first. A slot is placed with a credit; the slot of least credit leaves first, the oldest
 //! placing first among equals, and every credit that remains falls by the credit of the one that left. This crate has the
 //! meaning of an order, the trait `Order` that says it, and the orders that keep it: the flat order, the bottom wheel, a
-//! wheel over any order, and the pile of the last two. It depends on `std` and `arrayvec`.
+//! wheel over any order, and the pile of the last two. It depends on `std`.
 #![tactic(auto)]
 
 ghost use Rattle.std.specs.Prelude.{◌≡◌};

@@ -3,7 +3,7 @@ ghost use Rattle.std.specs.Option.{is_some};
 ghost use Rattle.orders.specs.Rings.{named};
 ghost use Rattle.orders.specs.Rows.{Bare};
 ghost use Rattle.orders.specs.Moved.{row};
-ghost use Rattle.orders.specs.Steps.{FreshPart, SoundWith, Raised, Migrate};
+ghost use Rattle.orders.specs.Steps.{SoundWith, Raised, Migrate};
 
 use crate::queues::Queues;
 use crate::{Order, PLACES};
@@ -18,17 +18,6 @@ pub(crate) struct OwnPart {
 }
 
 impl OwnPart {
-    /// No slot in any queue, the hand at 0, and nothing remembered.
-    pub(crate) fn new() -> OwnPart
-        ensures { FreshPart result }
-    {
-        OwnPart {
-            queues: Queues::new(),
-            hand: 0,
-            later: [None; PLACES],
-        }
-    }
-
     // As `Queues::holds`, of another table: each is one look.
     /// Whether a queue is remembered for the slot.
     pub(crate) fn remembers(&self, slot: usize) -> bool

@@ -5,7 +5,7 @@ ghost use Rattle.orders.specs.Rings.{nexts};
 ghost use Rattle.orders.specs.Wheels.{Sound};
 
 use crate::own::OwnPart;
-use crate::queues::QUEUES;
+use crate::queues::{QUEUES, Queues};
 use crate::{Expelled, Order, PLACES, SLOTS, SPAN_BELOW};
 
 /// A wheel over another order: what leaves within the hand's round stands in its own queues, and the rest waits below.
@@ -27,7 +27,11 @@ impl<O: Order> Wheel<O> {
         let mut below = below;
         below.empty();
         Wheel {
-            own: OwnPart::new(),
+            own: OwnPart {
+                queues: Queues::new(),
+                hand: 0,
+                later: [None; PLACES],
+            },
             below,
         }
     }
@@ -131,7 +135,9 @@ impl<O: Order> Order for Wheel<O> {
     }
 
     fn empty(&mut self) {
+        self.own.queues = Queues::new();
+        self.own.hand = 0;
+        self.own.later = [None; PLACES];
         self.below.empty();
-        self.own = OwnPart::new();
     }
 }

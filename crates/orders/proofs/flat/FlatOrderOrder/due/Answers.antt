@@ -1,7 +1,6 @@
-use Rattle.std.proofs.Common.{sym, ap, ◌∙◌}
-use Rattle.orders.specs.Meaning.{some_due}
+use Rattle.std.proofs.Common.{take, sym, ◌∙◌}
 use Rattle.orders.specs.FlatTables.{flat_due}
 use Rattle.orders.proofs.flat.FlatOrderOrder.due.Goals as goal
 
 pub returns : goal.returns
-returns c = c.any_due.ensures ∙ ap some_due c.deref.ensures.0 ∙ sym (flat_due c.args.self.now.entries.items)
+returns c = let o = c.args.self.now in c.any_due.ensures ∙ sym (flat_due (take o.count o.entries))

@@ -1,19 +1,22 @@
-use Rattle.std.proofs.Common.{[], refl, ap, ◌∙◌}
+use Rattle.std.proofs.Common.{[], None, refl, ap, replicate, ◌∙◌}
+use Rattle.orders.specs.declared.own.OwnPart.{OwnPart}
 use Rattle.orders.specs.Steps.{means}
 use Rattle.orders.specs.Meaning.{OrderMeaning, holding}
-use Rattle.orders.proofs.Owns.{fresh_waiting, fresh_sound}
+use Rattle.orders.proofs.Owns.{fresh_part, fresh_waiting, fresh_sound}
 use Rattle.orders.proofs.wheel.WheelOrder.empty.Goals as goal
 
 pub invariant_of-self : goal.invariant_of-self
-invariant_of-self g c = record {
-  sound = fresh_sound c.new-self.result c.new-self.ensures (g.O.Order.meaning c.empty.new.self) (ap (λ (z : OrderMeaning). z.waiting) c.empty.ensures.after);
-}
+invariant_of-self g c =
+    let q = c.new-self.result in
+    let w : OwnPart = record { queues = q; hand = 0; later = replicate 1024 None } in
+    record { sound = fresh_sound w (fresh_part q c.new-self.ensures.queues) (g.O.Order.meaning c.empty.new.self) (ap (λ (z : OrderMeaning). z.waiting) c.empty.ensures.after) }
 
 pub returns : goal.returns
 returns g c =
     let m : OrderMeaning = g.O.Order.meaning c.args.self.now.below in
-    let w = c.new-self.result in
+    let q = c.new-self.result in
+    let w : OwnPart = record { queues = q; hand = 0; later = replicate 1024 None } in
     record {
-      after = ap (means w) c.empty.ensures.after ∙ ap (holding (means w m)) (fresh_waiting w c.new-self.ensures (holding m []) refl);
-      hands = (c.new-self.ensures.hand, c.empty.ensures.hands);
+      after = ap (means w) c.empty.ensures.after ∙ ap (holding (means w m)) (fresh_waiting w (fresh_part q c.new-self.ensures.queues) (holding m []) refl);
+      hands = (refl, c.empty.ensures.hands);
     }
