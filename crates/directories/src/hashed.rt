@@ -74,12 +74,13 @@ impl<'a, K: Key> HashedDirectory<'a, K> {
     fn search(&self, key: &K) -> Option<usize>
         ensures { Located K.Key.sameness self.now.cells.now self.now.size key.now result }
     {
-        if self.size == 0 {
+        let size = self.size;
+        if size == 0 {
             return None;
         }
-        let bucket = self.bucket(key);
+        let bucket = key.home() as usize % size;
         let mut i = self.cells[bucket].head as usize;
-        while i < self.size {
+        while i < size {
             if self.holds(i, key) {
                 return Some(i);
             }
@@ -150,8 +151,12 @@ impl<'a, K: Key> Directory<K> for HashedDirectory<'a, K> {
         ensures means { Enters K.Key.sameness (hashed_meaning self.old) key result (hashed_meaning self.new) }
         ensures rest { Beyond self.old.size self.old.cells.now self.new.cells.now }
     {
+        // A full directory is asked before each eviction: it has nothing to search for.
+        if self.free == 0 {
+            return None;
+        }
         let known = self.search(&key).is_some();
-        if known || self.free == 0 {
+        if known {
             return None;
         }
         let slot = self.top();

@@ -1,5 +1,5 @@
 // The numbered directory: region numbers below 4,096, looked up directly.
-ghost use Rattle.std.specs.Prelude.{◌≡◌, ◌≤◌, min, replicate, None};
+ghost use Rattle.std.specs.Prelude.{◌≡◌, ◌≤◌, min, length, replicate, None};
 ghost use Rattle.std.proofs.Props.{props};
 ghost use Rattle.directories.specs.Meaning.{fresh};
 ghost use Rattle.directories.specs.Numbers.{Ranked, EverySlot, below, register};
@@ -32,17 +32,47 @@ fn nothing<T: Copy, const N: usize>() -> [Option<T>; N]
     [None; N]
 }
 
-// That many slots, none of them used.
-fn unused(size: usize) -> ArrayVec<u16, MOST_SLOTS>
-    requires { size ≤ 1024 }
-    ensures { EverySlot size result.items }
+// Clears each place.
+fn clear<T: Copy>(places: &mut [Option<T>])
+    ensures { places.new ≡ replicate (length places.old) None }
 {
-    let mut frees = ArrayVec::new();
-    // `collect` and `extend` may fail, and this cannot.
-    for slot in 0..size {
-        frees.push(slot as u16);
+    for place in places.iter_mut() {
+        *place = None;
     }
-    frees
+}
+
+// Puts its own index at each place.
+fn count_up(places: &mut [u16])
+    requires { length places.old ≤ 1024 }
+    ensures { EverySlot (length places.old) places.new }
+{
+    for (slot, place) in places.iter_mut().enumerate() {
+        *place = slot as u16;
+    }
+}
+
+// Leaves that many slots, with no key at any.
+fn clear_keys(keys: &mut ArrayVec<Option<RegionNumber>, MOST_SLOTS>, size: usize)
+    requires { size ≤ 1024 }
+    ensures { keys.new.items ≡ replicate size None }
+{
+    keys.truncate(size);
+    clear(keys);
+    for _ in keys.len()..size {
+        keys.push(None);
+    }
+}
+
+// Puts that many slots on the stack, and no others.
+fn free_all(frees: &mut ArrayVec<u16, MOST_SLOTS>, size: usize)
+    requires { size ≤ 1024 }
+    ensures { EverySlot size frees.new.items }
+{
+    frees.truncate(size);
+    // One copy makes up for what was taken, and no push for each slot. It fits.
+    let blank = [0; MOST_SLOTS];
+    let _ = frees.try_extend_from_slice(&blank[frees.len()..size]);
+    count_up(frees);
 }
 
 impl NumberedDirectory {
@@ -63,8 +93,9 @@ impl NumberedDirectory {
         ensures { numbered_meaning result ≡ register (replicate size None) capacity }
     {
         let mut keys = ArrayVec::from(nothing());
+        let mut frees = ArrayVec::from([0; MOST_SLOTS]);
         keys.truncate(size);
-        let frees = unused(size);
+        free_all(&mut frees, size);
         NumberedDirectory {
             keys,
             frees,
@@ -90,7 +121,10 @@ impl Directory<RegionNumber> for NumberedDirectory {
     }
 
     fn empty(&mut self, size: usize) {
-        *self = NumberedDirectory::sized(size.min(self.capacity), self.capacity);
+        let least = size.min(self.capacity);
+        clear_keys(&mut self.keys, least);
+        free_all(&mut self.frees, least);
+        clear(&mut self.slots);
     }
 
     fn admits(&self, key: &RegionNumber) -> bool {

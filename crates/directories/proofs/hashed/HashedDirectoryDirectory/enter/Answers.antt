@@ -3,21 +3,18 @@ use borrow.Author.Rules.{scaled_Fits}
 use Rattle.directories.specs.Tables.{Located}
 use Rattle.directories.proofs.Entries.{enter_full, enter_there}
 use Rattle.directories.proofs.Changes.{put}
-use Rattle.directories.proofs.hashed.HashedDirectoryDirectory.enter.Goals.{then-known-via-then-known, then-known-via-else-known+then-self-eq0}
 use Rattle.directories.proofs.hashed.HashedDirectoryDirectory.enter.Goals as goal
+
+pub returns-then-self-eq0 : goal.returns-then-self-eq0
+returns-then-self-eq0 g c =
+    let s = c.args.self.now in
+    record { means = enter_full g.met.K.Key.laws s.held.sound c.args.key s.capacity c.if-self-eq0.true; rest = refl }
 
 pub returns-then-known : goal.returns-then-known
 returns-then-known g c =
     let s = c.args.self.now in
-    record {
-      means = elim c.then-known.branch [
-        | then-known-via-then-known w ↦
-            let known : is_some c.search.result ≡ true = search rules in
-            enter_there g.met.K.Key.laws s.held.sound c.args.key s.capacity c.search.result c.search.ensures known
-        | then-known-via-else-known+then-self-eq0 w ↦ enter_full g.met.K.Key.laws s.held.sound c.args.key s.capacity w.if-self-eq0.true
-      ];
-      rest = refl;
-    }
+    let known : is_some c.search.result ≡ true = search rules in
+    record { means = enter_there g.met.K.Key.laws s.held.sound c.args.key s.capacity c.search.result c.search.ensures known; rest = refl }
 
 pub offset_bounds-cells-slot : goal.offset_bounds-cells-slot
 offset_bounds-cells-slot g c =

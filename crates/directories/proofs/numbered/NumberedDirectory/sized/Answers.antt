@@ -7,7 +7,7 @@ pub invariant_of-result : goal.invariant_of-result
 invariant_of-result c =
     let keys : c.truncate.new.self.items ≡ replicate c.args.size None = first_none c.args.size 1024 _ _ _ (omega arith) c.truncate.ensures.items c.from-keys.ensures.0 c.nothing.ensures in
     record {
-      ranked = rw keys (rank_new c.unused-frees.result.items c.nothing-2.result c.args.capacity c.args.size c.requires.small c.requires.within c.unused-frees.ensures
+      ranked = rw keys (rank_new c.free_all.new.frees.items c.nothing-2.result c.args.capacity c.args.size c.requires.small c.requires.within c.free_all.ensures
           (λ r. rw c.nothing-2.ensures (none_at 4096 r)));
     }
 
