@@ -14,7 +14,7 @@ pub trait Printable {
     fn text_len(&self) -> usize
         ensures { result ≡ length (text_of self.now) };
 
-    /// Writes the text. Only `write_text` calls it, since a page is made nowhere else.
+    /// Writes the text. It is reached from `write_text` alone, since a page is made nowhere else.
     fn put(&self, page: &mut Page<'_>)
         requires { Room (text_of self.now) page.old }
         ensures { Wrote (text_of self.now) page.old page.new };
